@@ -27,21 +27,29 @@ BANDS = [0, 2, 4]  # threads that settle in bands; with none the core settles by
 PARTS = ["take", "push", "sweep", "give back", "hints"]
 EDITED = "few-lit"  # the family whose last edits are watched and shown
 EDITS = 200  # the edits of that family that are measured
+RESET = "lit-ground"  # the family where a withdrawal resets all tiles
+WITHDRAWALS = 10  # how many of them are measured in a run
 SUMS = {}  # of what the baseline writes, by the paths of inputs
 
 
-def lines_of(program, words, source, start=None):
-    """What the program writes on an input, a list of numbers for each line, and its peak bytes."""
+def words_of(program, words, source, start=None):
+    """What the program writes on an input, a list of words for each line, and its peak bytes."""
     with open(source.path, "rb") as reader:
         command = [program, *(str(word) for word in words)]
         child = subprocess.Popen(command, stdin=reader, stdout=subprocess.PIPE, text=True, preexec_fn=start)
         with child.stdout as written:
-            lines = [[int(number) for number in line.split()] for line in written]
+            lines = [line.split() for line in written]
         _, status, usage = os.wait4(child.pid, 0)
     child.returncode = os.waitstatus_to_exitcode(status)
     if child.returncode != 0:
         run.stop(f"{program} {words[0]} ended with status {child.returncode} on {source.path}")
     return lines, usage.ru_maxrss * 1024
+
+
+def lines_of(program, words, source, start=None):
+    """The same, a list of numbers for each line."""
+    lines, peak = words_of(program, words, source, start)
+    return [[int(word) for word in line] for line in lines], peak
 
 
 def sum_of(image):
@@ -176,6 +184,38 @@ def beside_each(sources, program, baseline, words):
               [beside_each_row(source, program, baseline, words) for source in sources])
 
 
+def withdrawals(program, words, source, start=None):
+    """The median seconds of a withdrawal, merged and settled, and of how many tiles it reset."""
+    lines = [line for line in words_of(program, words, source, start)[0] if line[0] == "withdrawn"]
+    if len(lines) != WITHDRAWALS:
+        run.stop(f"{program} measured other edits than those of {source.path}")
+    reset, _, nanoseconds = (statistics.median(int(line[place]) for line in lines) for place in (1, 2, 3))
+    return nanoseconds / 1e9, reset
+
+
+def withdrawals_beside_each(program, words):
+    """Print the table of withdrawals that reset all tiles: by a core alone on each processor, in bands, by hands."""
+    source = run.Input(RESET, words.size)
+    processors = sorted(os.sched_getaffinity(0))
+    edits, side = 2 * WITHDRAWALS, words.side
+    alone, others = {processor: [] for processor in processors}, {"edit": [], "studio": []}
+    for _ in range(words.runs):
+        for processor in processors:
+            alone[processor].append(withdrawals(program, ["edit", edits, side], source, bound_to(processor)))
+        others["edit"].append(withdrawals(program, ["edit", edits, side, 4], source))
+        others["studio"].append(withdrawals(program, ["studio", 3, side, edits], source))
+    own = [statistics.median(seconds for seconds, _ in each) for each in alone.values()]
+    bands, studio = (statistics.median(seconds for seconds, _ in each) for each in others.values())
+    reset = statistics.median(tiles for _, tiles in others["studio"])
+    mean = statistics.mean(own)
+    run.say(f"{source.family}: withdrawn alone {', '.join(f'{1000 * seconds:.0f}' for seconds in own)} ms")
+    run.table([f"withdrawals, {words.size} by {words.size}, tile {side}", "tiles reset", "alone, least ms", "mean ms",
+               "most ms", "4 bands ms", "3 hands as a node's ms", "bands, part of mean", "hands, part of mean"],
+              [[source.family, f"{reset:,.0f}", *(f"{1000 * seconds:.0f}" for seconds in
+                                                  (min(own), mean, max(own), bands, studio)),
+                f"{bands / mean:.2f}", f"{studio / mean:.2f}"]])
+
+
 # ---- Parts, shows, glimpses ----
 
 def parts_row(source, program, baseline, words):
@@ -253,6 +293,7 @@ def main():
         return
     if words.each_processor:
         beside_each(sources, program, baseline, words)
+        withdrawals_beside_each(program, words)
         return
     if not words.turns:
         settling(sources, program, baseline, words, "studio")

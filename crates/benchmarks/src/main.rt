@@ -11,8 +11,10 @@
 //!   many jobs there were, and the time.
 //! - `settle HANDS SIDE` merges all edits and lets so many hands settle, in threads of their own; with none the core
 //!   settles by itself: the sum, how many jobs there were, and the time.
-//! - `studio HANDS SIDE` does as `settle HANDS SIDE`, but where that takes less time the keeper settles in bands, by one
-//!   thread more than there are hands, as that of a node does.
+//! - `studio HANDS SIDE` does as `settle HANDS SIDE`, but where that takes less time the keeper settles in bands, by
+//!   one thread more than there are hands, as that of a node does. With `studio HANDS SIDE COUNT` it begins as `edit`
+//!   does: each of the last edits is submitted, taken in, and its work done so. A line for each, as of `edit`, with how
+//!   many jobs there were and the time of the clock.
 //! - `settle parts SIDE` works the same off in one thread, job by job: how many jobs there were, and the time to take
 //!   them, to push them, to sweep and report them, to collect them and give them back, and to hand hints over; then the
 //!   sum.
@@ -42,6 +44,7 @@ use input::{Input, read};
 use outcome::{Fault, MEMORY, Outcome};
 use pgm_codec::{Source, StdSource};
 use std::env;
+use studios::Task;
 use system::System;
 
 /// The side of the tiles where the call does not say it.
@@ -64,15 +67,16 @@ fn measure(rt: &impl System, source: &mut impl Source, words: &[String]) -> Outc
         }
         ("settle", Some(0), Some(side)) => settling::once(rt, read(rt, source)?, side),
         ("settle", Some(hands), Some(side)) => {
-            studios::run(rt, read(rt, source)?, hands, side, None, None)
+            studios::run(rt, read(rt, source)?, hands, side, Task::Settle, None)
         }
         ("studio", Some(hands), Some(side)) => {
+            let task = number_at(words, 4).map_or(Task::Settle, Task::Edit);
             let threads = hands as usize + 1;
-            studios::run(rt, read(rt, source)?, hands, side, None, Some(threads))
+            studios::run(rt, read(rt, source)?, hands, side, task, Some(threads))
         }
         ("settle", None, Some(side)) => parts::measure(rt, read(rt, source)?, side),
         ("watch", Some(count), None) => {
-            studios::run(rt, read(rt, source)?, 2, SIDE, Some(count), None)
+            studios::run(rt, read(rt, source)?, 2, SIDE, Task::See(count), None)
         }
         ("board", Some(hands), None) => boards::measure(rt, read(rt, source)?, hands, false),
         ("flood", Some(hands), Some(4)) => boards::measure(rt, read(rt, source)?, hands, true),

@@ -1,13 +1,13 @@
 //! Studios under stress: 16 pens, 16 hands, 16 eyes and a keeper run in threads, and what they leave is checked.
 //!
-//! Pens submit edits that are drawn, some of which clash or do not fit the mask. The keeper makes turns until all are
-//! taken and no work is left; meanwhile it shows the core, settles in bands and recalls jobs. No eye may go back. At
-//! the end the strokes have to be those of all edits that are not listed as refused, and the image what the slow
-//! program says.
+//! Pens submit edits that are drawn, some of which clash or do not fit the mask. The keeper makes turns, some of them
+//! without jobs, until all are taken and no work is left; meanwhile it shows the core, settles in bands and recalls
+//! jobs. No eye may go back. At the end the strokes have to be those of all edits that are not listed as refused, and
+//! the image what the slow program says.
 
 use crate::drawn::{EACH, EDITS, core, edit};
 use crate::outcome::{Fault, MEMORY, Outcome, check};
-use crate::studios::{open, spawn_hands, turn};
+use crate::studios::{open, spawn_hands, take_in, turn};
 use crate::system::System;
 use core_dispatch::{Full, Pen, Refusal};
 use marker_tiles::marker;
@@ -124,11 +124,17 @@ impl Round {
     }
 
     // Makes turns until all edits are taken and no work is left, or something is not as it should be. It shows the core
-    // after each turn that took an edit, and now and then it settles for a while in bands, or recalls all jobs.
+    // after each turn that took an edit. Every fourth turn pushes no job, and now and then it settles for a while in
+    // bands, or recalls all jobs.
     fn keep(&self, rt: &impl System, keeper: &mut Keeper) -> Outcome {
         for number in 0..u64::MAX {
             let is_last = self.writers.load(Ordering::SeqCst) == 0;
-            let edits = turn(keeper)?.edits;
+            let took = if number % 4 == 3 {
+                take_in(keeper)?
+            } else {
+                turn(keeper)?
+            };
+            let edits = took.edits;
             if edits > 0 {
                 let _told = keeper.show(rt).or(Err(MEMORY))?;
             }

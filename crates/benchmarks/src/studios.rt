@@ -63,27 +63,58 @@ pub fn turn(keeper: &mut Keeper) -> Result<Turned, Fault> {
     Ok(turned)
 }
 
-/// Has so many hands work in threads. Where a count is given, so many of the last edits are submitted to a settled
-/// core, each after the other, and a line is printed for each: the time until a glimpse has it, and what two shows
-/// took, one after the edit and one after nothing. Else a core of all edits settles, and its sum, how many jobs there
-/// were, and the time are printed. Where a number of threads is given, the keeper settles in bands by so many where
-/// that takes less time than turns.
+/// Takes in what a turn would, and pushes no job.
+///
+/// Errors: out of memory.
+pub fn take_in(keeper: &mut Keeper) -> Result<Turned, Fault> {
+    let taken = keeper.take_in();
+    check(!taken.memory, MEMORY.0)?;
+    Ok(taken)
+}
+
+/// What a keeper with hands does, and what is printed of it.
+#[derive(Clone, Copy)]
+pub enum Task {
+    /// A core of all edits settles. Its sum, how many jobs there were, and the time are printed.
+    Settle,
+    /// So many of the last edits are submitted to a settled core, one after another, and a line is printed for each:
+    /// the time until a glimpse has it, and what two shows took, one after the edit and one after nothing.
+    See(u32),
+    /// The same, and a line for each: `placed` or `withdrawn`, how many tiles were reset, how many jobs there were, and
+    /// the time until no work is left.
+    Edit(u32),
+}
+
+impl Task {
+    // How many of the last edits are submitted, where the core settles before.
+    fn count(self) -> Option<u32> {
+        match self {
+            Task::Settle => None,
+            Task::See(count) | Task::Edit(count) => Some(count),
+        }
+    }
+}
+
+/// Has so many hands work in threads, and does the task. Where a number of threads is given, the keeper settles in
+/// bands by so many where that takes less time than turns.
+///
+/// Errors: a core or studio that can not be made; a thread that can not be; an edit that is not seen; out of memory.
 pub fn run<R: System>(
     rt: &R,
     input: Input,
     hands: u32,
     side: u32,
-    count: Option<u32>,
+    task: Task,
     threads: Option<usize>,
 ) -> Outcome {
-    let (core, edits) = input.open(rt.alloc(), side, count)?;
+    let (core, edits) = input.open(rt.alloc(), side, task.count())?;
     let (mut keeper, mut pens, hands, mut eyes) = open(rt, core, hands as usize, 1)?;
     let (lent, seats, edits) = (&mut keeper, &mut (pens.pop(), eyes.pop()), &edits);
     let done = &AtomicBool::new(false);
     let mut laps = Laps::begin(rt);
     let jobs = thread::scope(thread::scope_env(), rt, move |scope| {
         let jobs = match spawn_hands(scope, rt, hands, done) {
-            Ok(()) => see_all(rt, lent, seats, edits, threads),
+            Ok(()) => do_all(rt, lent, seats, edits, task, threads),
             Err(fault) => Err(fault),
         };
         done.store(true, Ordering::SeqCst);
@@ -91,23 +122,27 @@ pub fn run<R: System>(
     });
     let time = laps.lap(rt);
     let core = keeper.end(rt);
-    if count.is_none() {
+    if task.count().is_none() {
         return tell(rt, core, jobs, time);
     }
     drop(core);
     jobs.and(Ok(()))
 }
 
-// Has the edits seen one by one, each after the work of the one before, and says how many jobs there were at the end.
-fn see_all(
+// Does the task with each edit, each after the work of the one before, and says how many jobs there were at the end.
+fn do_all(
     rt: &impl System,
     keeper: &mut Keeper,
     seats: &mut Seats,
     edits: &[Delta],
+    task: Task,
     threads: Option<usize>,
 ) -> Result<u64, Fault> {
     for edit in edits {
-        see(rt, keeper, seats, edit)?;
+        match task {
+            Task::Edit(_) => measure(rt, keeper, seats, edit, threads)?,
+            _ => see(rt, keeper, seats, edit)?,
+        }
         work_off(rt, keeper, threads)?;
     }
     work_off(rt, keeper, threads)
@@ -138,15 +173,53 @@ fn settle(rt: &impl System, keeper: &mut Keeper, threads: usize) -> Result<u64, 
     Ok(slice.count.jobs)
 }
 
+// Has an edit submitted, taken in and worked off, and prints what that took.
+fn measure(
+    rt: &impl System,
+    keeper: &mut Keeper,
+    seats: &mut Seats,
+    edit: &Delta,
+    threads: Option<usize>,
+) -> Outcome {
+    let before = sum_of_generations(keeper);
+    let copy = edit.copy(rt.alloc()).or(Err(MEMORY))?;
+    let mut laps = Laps::begin(rt);
+    submit(seats, copy)?;
+    take_in(keeper)?;
+    let jobs = work_off(rt, keeper, threads)?;
+    let time = laps.lap(rt);
+    let reset = sum_of_generations(keeper).wrapping_sub(before);
+    let is_placed = edit.strokes().next().is_some();
+    let kind = if is_placed { "placed" } else { "withdrawn" };
+    println!(rt; "{kind} {reset} {jobs} {time}")?;
+    Ok(())
+}
+
+// Submits an edit by the pen.
+fn submit(seats: &mut Seats, edit: Delta) -> Outcome {
+    let (pen, _eye) = seats;
+    let is_in = pen.as_mut().is_some_and(|pen| pen.submit(edit).is_ok());
+    check(is_in, "a ring is full")
+}
+
+// The sum of the generations of all tiles, which each reset of a tile raises by 1.
+fn sum_of_generations(keeper: &Keeper) -> u64 {
+    let core = keeper.core();
+    let mut sum: u64 = 0;
+    for tile in 0..core.tiles() {
+        sum = sum.wrapping_add(core.generation(tile));
+    }
+    sum
+}
+
 // Has an edit submitted and seen, and prints what it took until then, and what two shows took.
 fn see(rt: &impl System, keeper: &mut Keeper, seats: &mut Seats, edit: &Delta) -> Outcome {
     let copy = edit.copy(rt.alloc()).or(Err(MEMORY))?;
-    let (pen, eye) = seats;
     let mut laps = Laps::begin(rt);
-    let is_in = pen.as_mut().is_some_and(|pen| pen.submit(copy).is_ok());
-    check(is_in, "a ring is full")?;
+    submit(seats, copy)?;
     turn(keeper)?;
     let first = time_of_show(rt, keeper)?;
+    let (_pen, eye) = seats;
     let Some(Ok(glimpse)) = eye.take().map(|eye| eye.look()) else {
         return Err(Fault("the studio is closed"));
     };

@@ -12,6 +12,7 @@ pub mod Growing
 pub mod Around
 pub mod Reported
 pub mod Placed
+pub mod TakenIn
 pub mod Turning
 pub mod Collecting
 pub mod Pushing

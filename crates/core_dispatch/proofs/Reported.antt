@@ -1,6 +1,6 @@
 -- Reports that are taken of hands, as events.
 use Rattle.std.proofs.Common.{◌≡◌, ℕ, zero, suc, ◌+◌, true, false, Bool, List, [], ◌∷◌, ◌++◌, length, sym, refl, ap}
-use Rattle.std.proofs.Common.{subst, arith, Option, Some, None, sum_by}
+use Rattle.std.proofs.Common.{◌∙◌, subst, arith, Option, Some, None, sum_by}
 use Rattle.std.proofs.lemmas.List.Sums.{sum_by-cons}
 use Rattle.tile_generations.specs.{declared.ticket.Ticket.Ticket, Jobs.Swept}
 use Rattle.core_rules.specs.{declared.answers.Back.Back, Work.Core, Runs.Entry, Runs.IsRun}
@@ -60,6 +60,15 @@ collected_around hand old (Some wanting ∷ answers) new (next, (report, collect
       };
     })
     (collected_around (hand + 1) next answers new rest)
+
+-- taking reports pushes no job
+pub collected_pushes_none : (hand : ℕ) (old : Dispatcher) (answers : List (Option Bool)) (new : Dispatcher)
+    → AreCollected hand old answers new → new.owner.pushed ≡ old.owner.pushed
+collected_pushes_none hand old [] new same = ap (λ (d : Dispatcher). d.owner.pushed) same
+collected_pushes_none hand old (None ∷ answers) new (next, (same, none_left), rest) =
+    collected_pushes_none (hand + 1) next answers new rest ∙ ap (λ (d : Dispatcher). d.owner.pushed) same
+collected_pushes_none hand old (Some wanting ∷ answers) new (next, (report, collected, judged, same), rest) =
+    collected_pushes_none (hand + 1) next answers new rest ∙ ap (λ (o : OwnerView). o.pushed) collected.new_is
 
 -- ---- no merges
 

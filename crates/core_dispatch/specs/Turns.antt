@@ -28,6 +28,21 @@ pub record HasTurned (old : Dispatcher) (turned : Turned) (new : Dispatcher) : T
   pub counts : (turned.edits ≡ edits.edits) × (turned.results ≡ results.results) × (turned.jobs ≡ jobs.jobs)
   pub memory : turned.memory ≡ (edits.memory || (results.memory || jobs.memory))
 
+-- in this order: each pen had one turn; each hand was asked for a report; and each hint that waited was handed over
+pub record HasTakenIn (old : Dispatcher) (taken : Turned) (new : Dispatcher) : Type 0 where
+  pub edits : Edits
+  pub results : Results
+  pub edited : Dispatcher
+  pub collected : Dispatcher
+  pub round : IsRound old.books edits edited.books
+  pub takes : HaveTakenEdits old.books edits.edits edited.books
+  pub other : edited ≡ record old { books = edited.books }
+  pub collects : HaveCollected edited results collected
+  pub hands : HaveHanded collected.books.core taken.hints new.books.core
+  pub rest : new ≡ with_core collected new.books.core
+  pub counts : (taken.edits ≡ edits.edits) × (taken.results ≡ results.results) × (taken.jobs ≡ 0)
+  pub memory : taken.memory ≡ (edits.memory || results.memory)
+
 -- the events that so many reports lead to, one report after another
 abbrev pub AreOfReports : ℕ → List Entry → Type 0
 AreOfReports zero log = log ≡ []
@@ -80,6 +95,21 @@ pub record TakesTurn (old : Dispatcher) (turned : Turned) (new : Dispatcher) : T
   pub state : HasMergedNone old turned new → new.books.core.state ≡ old.books.core.state
   pub image : IsStill old turned new → new.books.core.image ≡ old.books.core.image
   pub opening : new.books.opening ≡ old.books.opening
+  pub capacity : new.owner.capacity ≡ old.owner.capacity
+  pub hands : IsSamePool old.owner new.owner
+  pub pens : KeepsPens old.books new.books
+
+-- the part of a turn before its jobs was taken: what it did is a list of the core's events, none of which takes a job.
+-- Afterwards no hint waits. All else is as of a turn, and no job was pushed
+pub record TakesIn (old : Dispatcher) (taken : Turned) (new : Dispatcher) : Type 0 where
+  pub taken_is : HasTakenIn old taken new
+  pub events : AreEvents old.books.core taken new.books.core
+  pub no_hints : (t : ℕ) → HasHints new.books.core t → ⊥
+  pub grows : GrowsOn old.books.core new.books.core
+  pub state : HasMergedNone old taken new → new.books.core.state ≡ old.books.core.state
+  pub image : IsStill old taken new → new.books.core.image ≡ old.books.core.image
+  pub opening : new.books.opening ≡ old.books.opening
+  pub pushed : new.owner.pushed ≡ old.owner.pushed
   pub capacity : new.owner.capacity ≡ old.owner.capacity
   pub hands : IsSamePool old.owner new.owner
   pub pens : KeepsPens old.books new.books

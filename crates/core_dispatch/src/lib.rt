@@ -6,7 +6,8 @@
 //! keeper's: the core, the strokes that it had at opening, the other end of each pen's ring, and the list of the edits
 //! that the core refused. A [`Dispatcher`] owns the books, and the pool that the core's jobs go to. One
 //! [`turn`](Dispatcher::turn) takes at most one edit of each pen and one report of each hand, hands over each hint that
-//! waits, and pushes the job of each tile that is dirty and not out:
+//! waits, and pushes the job of each tile that is dirty and not out ([`take_in`](Dispatcher::take_in) is a turn that
+//! pushes none):
 //!
 //! ```text
 //! let OpenedBooks { books, mut pens } = Books::open(alloc, core, 2)?;

@@ -1,5 +1,5 @@
 -- A desk at work.
-use Rattle.std.proofs.Common.{arith, ◌≡◌, ◌+◌, ℕ, suc, Bool, refl, sym, ap, ◌∙◌, subst}
+use Rattle.std.proofs.Common.{arith, ◌≡◌, ◌+◌, ℕ, suc, Bool, true, refl, sym, ap, ◌∙◌, subst}
 use Rattle.byte_devices.specs.Device.{HasRisenBy}
 use Rattle.core_dispatch.specs.{Books.BooksView, Growing.GrowsOn}
 use Rattle.core_dispatch.proofs.{Around.rest_pens, Growing.grows_itself, Growing.grows_through, Growing.run_grows}
@@ -10,7 +10,7 @@ use Rattle.link_nodes.specs.{Links.LinkSeen, Nodes.pen_of, Nodes.IsSameNode}
 use Rattle.link_nodes.proofs.SameNodes.{same_node, same_node_through}
 use Rattle.node_session.specs.declared.desk.Desk.{Desk}
 use Rattle.node_session.specs.Working.{IsOneStudio, HasItsPen, HasSettledFor, Stays, StaysSilent, WorksOn}
-use Rattle.node_session.specs.Working.{IsTurnOf, AreTurns}
+use Rattle.node_session.specs.Working.{AreTurns, IsTurnOf, TookIn, TookInEdits}
 use Rattle.node_session.proofs.Meanwhile.{hears_nothing, hears_through, hears_from}
 
 stays_itself : (d : Desk) → Stays d d
@@ -73,7 +73,14 @@ one_more_turn n a b c busy turns turn =
     let more : suc n ≡ n + 1 = omega arith in
     subst (λ (k : ℕ). AreTurns k a c) more all
 
--- the same of a desk at which it was taken
+-- one edit more that was taken in
+pub one_more_edit : (n : ℕ) (a b c : Keeper) → TookInEdits n a b → TookIn b true c → TookInEdits (n + 1) a c
+one_more_edit n a b c edits took =
+    let all : TookInEdits (suc n) a c = (b, edits, took) in
+    let more : suc n ≡ n + 1 = omega arith in
+    subst (λ (k : ℕ). TookInEdits k a c) more all
+
+-- one turn more, of a desk at which it was taken
 pub turn_at_desk : (n : ℕ) (a b c d : Desk) (busy : Bool) → StaysSilent a b → AreTurns n a.keeper b.keeper
     → StaysSilent b c → IsTurnOf b.keeper busy c.keeper → d ≡ c
     → StaysSilent a d × AreTurns (n + 1) a.keeper d.keeper × IsTurnOf b.keeper busy d.keeper

@@ -1,5 +1,5 @@
 -- A keeper and a node of one studio that work together. Only private functions have this in their contracts.
-use Rattle.std.specs.Prelude.{◌≡◌, ◌<◌, ◌⊎◌, ◌↔◌, ◌++◌, ℕ, zero, suc, Bool, false, IsTrue, List, [], All}
+use Rattle.std.specs.Prelude.{◌≡◌, ◌<◌, ◌≤◌, ◌⊎◌, ◌↔◌, ◌++◌, ℕ, zero, suc, Bool, true, false, IsTrue, List, [], All}
 use Rattle.std.specs.Prelude.{Result}
 use Rattle.byte_devices.specs.Device.{HasRisenBy}
 use Rattle.grid_core.specs.{declared.conn.Conn.Conn, declared.memory.Memory.Memory, Raster.Raster}
@@ -7,12 +7,13 @@ use Rattle.stroke_lattice.specs.State.{State}
 use Rattle.core_rules.specs.Work.{Core}
 use Rattle.tile_work.specs.WorkTable.{HasJobOut}
 use Rattle.core_dispatch.specs.{declared.pen.PenEnd.PenEnd, Pens.IsOf, Pens.all_submitted, Growing.GrowsOn}
-use Rattle.core_dispatch.specs.{declared.turned.Turned.Turned, Turns.TakesTurn, Books.BooksView, Books.KeepsRest}
+use Rattle.core_dispatch.specs.{declared.turned.Turned.Turned, Turns.TakesIn, Turns.TakesTurn}
+use Rattle.core_dispatch.specs.{Books.BooksView, Books.KeepsRest}
 use Rattle.reset_core.specs.declared.replica.settling.Slice.{Slice}
 use Rattle.tiled_image.specs.Settling.{IsSettledFor}
 use Rattle.studio.specs.{declared.keeper.Keeper.Keeper, declared.closed.Closed.Closed, Keeping.core_of}
 use Rattle.studio.specs.Keeping.{dispatcher_of, books_of, studio_of}
-use Rattle.studio.specs.{Company.KeepsCompany, Closing.IsClosed}
+use Rattle.studio.specs.{Company.KeepsCompany, Closing.IsClosed, Left.HasAtLeast, Left.IsLeft}
 use Rattle.link_nodes.specs.{declared.node.Node.Node, Links.LinkSeen}
 use Rattle.link_nodes.specs.Nodes.{pen_of, conn_of, print_of, submitted_by, node_studio, IsSameNode}
 use Rattle.node_session.specs.{declared.desk.Desk.Desk, Given.HasGiven, Given.SomeSpells, Given.ComesFrom}
@@ -75,19 +76,55 @@ abbrev pub HasSettledFor : ℕ → BooksView → BooksView → Type 0
 HasSettledFor jobs old new =
     KeepsRest old new × ((answer : Result Slice Memory) × IsSettledFor old.core jobs answer new.core)
 
+-- so much is left that bands by so many threads are said to take less time than turns
+abbrev pub IsMuchLeft : ℕ → Core → Type 0
+IsMuchLeft threads core =
+    (threads < 3 → HasAtLeast 1 (IsLeft core)) × (3 ≤ threads → HasAtLeast 256 (IsLeft core))
+
 -- a turn more, the last: in it neither an edit nor a report was taken, and no job is out; or behind it the core settled
--- for a slice of so many jobs
-abbrev pub IsLastTurn : ℕ → Keeper → BooksView → Type 0
-IsLastTurn jobs old new =
+-- for a slice of so many jobs, where much was left or hands brought nothing back
+abbrev pub IsLastTurn : ℕ → ℕ → Keeper → BooksView → Type 0
+IsLastTurn threads jobs old new =
     (k : Keeper) × (busy : Bool) × IsTurnOf old busy k
     × (((busy ≡ false) × ((t : ℕ) → HasJobOut (core_of k).tiles t → ⊥) × (new ≡ books_of k))
-    ⊎ HasSettledFor jobs (books_of k) new)
+    ⊎ (((busy ≡ false) ⊎ IsMuchLeft threads (core_of k)) × HasSettledFor jobs (books_of k) new))
 
 -- as many turns as there may be, or fewer and behind them the last one
-abbrev pub HasWorked : ℕ → ℕ → Keeper → BooksView → Type 0
-HasWorked most jobs old new =
+abbrev pub HasTakenTurns : ℕ → ℕ → ℕ → Keeper → BooksView → Type 0
+HasTakenTurns most threads jobs old new =
     (n : ℕ) × (k : Keeper) × AreTurns n old k
-    × (((n ≡ most) × (new ≡ books_of k)) ⊎ ((n < most) × IsLastTurn jobs k new))
+    × (((n ≡ most) × (new ≡ books_of k)) ⊎ ((n < most) × IsLastTurn threads jobs k new))
+
+-- the keeper took in what waited, and this says whether an edit was taken
+pub record TookIn (old : Keeper) (edited : Bool) (new : Keeper) : Type 0 where
+  pub taken : Turned
+  pub takes : TakesIn (dispatcher_of old) taken (dispatcher_of new)
+  pub says : IsTrue edited ↔ (0 < taken.edits)
+
+-- so many times in a row an edit was taken in
+abbrev pub TookInEdits : ℕ → Keeper → Keeper → Type 0
+TookInEdits zero old new = new ≡ old
+TookInEdits (suc n) old new = (k : Keeper) × TookInEdits n old k × TookIn k true new
+
+-- edits were taken in as often as may be, or less often and then there was none
+abbrev pub TookInAll : ℕ → Keeper → Keeper → Type 0
+TookInAll most old new =
+    (n : ℕ) × (k : Keeper) × TookInEdits n old k
+    × (((n ≡ most) × (new ≡ k)) ⊎ ((n < most) × TookIn k false new))
+
+-- the core settled for a slice of so many jobs, and then a turn was taken
+abbrev pub HasSettledAndTurned : ℕ → Keeper → BooksView → Type 0
+HasSettledAndTurned jobs old new =
+    (settled turned : Keeper) × (busy : Bool) × HasSettledFor jobs (books_of old) (books_of settled)
+    × IsTurnOf settled busy turned × (new ≡ books_of turned)
+
+-- what waited was taken in. Where much was left then, the core settled for a slice of so many jobs and a turn was taken,
+-- and else turns were
+abbrev pub HasWorked : ℕ → ℕ → ℕ → Keeper → BooksView → Type 0
+HasWorked most threads jobs old new =
+    (k : Keeper) × TookInAll most old k
+    × ((IsMuchLeft threads (core_of k) × HasSettledAndTurned jobs k new)
+    ⊎ ((IsMuchLeft threads (core_of k) → ⊥) × HasTakenTurns most threads jobs k new))
 
 -- the keeper's studio was closed with these ends, and this is its core
 abbrev pub IsClosedTo : Keeper → List PenEnd → Core → Type 0

@@ -1,8 +1,9 @@
 //! A keeper and a node at work.
 
 ghost use Rattle.std.specs.Prelude.{◌≡◌, ◌<◌, ◌⊎◌, ◌↔◌, true, false, IsTrue};
-ghost use Rattle.studio.specs.Keeping.{books_of};
-ghost use Rattle.node_session.specs.Working.{HasSettledFor, HasWorked, IsOneStudio, IsTurnOf, StaysSilent, WorksOn};
+ghost use Rattle.studio.specs.Keeping.{books_of, core_of};
+ghost use Rattle.node_session.specs.Working.{HasSettledFor, HasTakenTurns, HasWorked, IsMuchLeft, IsOneStudio};
+ghost use Rattle.node_session.specs.Working.{IsTurnOf, StaysSilent, TookIn, TookInAll, WorksOn};
 
 use crate::pace::rest;
 use core_dispatch::Turned;
@@ -15,11 +16,11 @@ use std::thread::Threads;
 use std::time::Clock;
 use studio::Keeper;
 
-// How many turns a tick takes at most, and how many tiles are swept in bands in a tick at most, so that the node hears
-// and sends now and then.
+// How many turns a tick takes at most, and how many tiles are swept in bands in a tick at most, which takes four threads
+// a third of a second or so: the node hears and sends now and then.
 const TURNS: u32 = 1024;
 
-const SWEEPS: u64 = 4096;
+const SWEEPS: u64 = 32_768;
 
 // Behind how many turns in a row that had nothing to take a tick waits for hands no longer.
 const PATIENCE: u32 = 256;
@@ -63,19 +64,45 @@ impl Desk {
     )
         requires { IsOneStudio self.old }
         ensures works { WorksOn 1 self.old self.new (L.seen link.old) (L.seen link.new) }
-        ensures worked { HasWorked 1024 4096 self.old.keeper (books_of self.new.keeper) }
+        ensures worked { HasWorked 1024 threads 32768 self.old.keeper (books_of self.new.keeper) }
     {
         self.work(rt, threads);
         self.show(rt);
         self.exchange(alloc, link);
     }
 
+    // What waits is taken in before a job is pushed, so that hands are not given what is swept in bands: where much is
+    // left then, the keeper settles for a slice in bands, and takes a turn. Else it takes turns.
+    fn work<R: Threads + Sync>(&mut self, rt: &R, threads: usize)
+        ensures silent { StaysSilent self.old self.new }
+        ensures worked { HasWorked 1024 threads 32768 self.old.keeper (books_of self.new.keeper) }
+    {
+        self.take_in_all();
+        if self.settle_where_much(rt, threads, SWEEPS) {
+            let _is_busy = self.turn();
+            return;
+        }
+        self.take_turns(rt, threads);
+    }
+
+    // The keeper takes in what waits until that was no edit, and no more than `TURNS` times.
+    fn take_in_all(&mut self)
+        ensures silent { StaysSilent self.old self.new }
+        ensures taken { TookInAll 1024 self.old.keeper self.new.keeper }
+    {
+        for _turn in 0..TURNS {
+            if !self.take_in() {
+                return;
+            }
+        }
+    }
+
     // The keeper takes turns until one took neither an edit nor a report and no job is out, and no more than `TURNS`.
     // So what waits is merged and joined before the core is shown, and its image is copied once for all of it. Where
     // much is left, or hands bring nothing back, it settles for a slice in bands instead.
-    fn work<R: Threads + Sync>(&mut self, rt: &R, threads: usize)
+    fn take_turns<R: Threads + Sync>(&mut self, rt: &R, threads: usize)
         ensures silent { StaysSilent self.old self.new }
-        ensures worked { HasWorked 1024 4096 self.old.keeper (books_of self.new.keeper) }
+        ensures worked { HasTakenTurns 1024 threads 32768 self.old.keeper (books_of self.new.keeper) }
     {
         let mut waits: u32 = 0;
         for _turn in 0..TURNS {
@@ -99,6 +126,15 @@ impl Desk {
         }
     }
 
+    // The keeper takes in what waits. It says whether an edit was taken.
+    fn take_in(&mut self) -> bool
+        ensures silent { StaysSilent self.old self.new }
+        ensures taken { TookIn self.old.keeper result self.new.keeper }
+    {
+        let taken = self.keeper.take_in();
+        taken.edits > 0
+    }
+
     // The keeper takes a turn. It says whether an edit or a report was taken in it.
     fn turn(&mut self) -> bool
         ensures silent { StaysSilent self.old self.new }
@@ -112,6 +148,7 @@ impl Desk {
     // whether it did.
     fn settle_where_much<R: Threads + Sync>(&mut self, rt: &R, threads: usize, jobs: u64) -> bool
         ensures silent { StaysSilent self.old self.new }
+        ensures much { IsTrue result ↔ IsMuchLeft threads (core_of self.old.keeper) }
         ensures settled { result ≡ true → HasSettledFor jobs (books_of self.old.keeper) (books_of self.new.keeper) }
         ensures same { result ≡ false → self.new ≡ self.old }
     {

@@ -1,6 +1,7 @@
 -- A job more with its report.
 use Rattle.std.proofs.Common.{◌≡◌, ℕ, Bool, true, false, List, [], ◌∷◌, ◌++◌, sym, refl}
 use Rattle.std.proofs.Common.{◌∙◌, subst}
+use Rattle.std.proofs.lemmas.Slice.Zip.{all_zipped_more}
 use Rattle.std.specs.List.{AllZip}
 use Rattle.tile_generations.specs.{Jobs.Job}
 use Rattle.steal_pool.specs.{declared.report.Report.Report, declared.report.Report.TheVariants.Done}
@@ -8,13 +9,6 @@ use Rattle.steal_pool.specs.{declared.report.Report.TheVariants.Failed, declared
 use Rattle.steal_pool.specs.{Views.reports, Working.Adds, Working.IsOutcome}
 use Rattle.steal_pool.specs.Reports.{IsReportOf, AreReported, IsTurn, AreTurns, IsStep}
 use Rattle.steal_pool.specs.declared.report.Turn.TheVariants as turn
-
-zip_push : {A B : Type 0} (R : A → B → Type 0) (xs : List A) (ys : List B) (x : A) (y : B) → AllZip R xs ys
-    → R x y → AllZip R (xs ++ x ∷ []) (ys ++ y ∷ [])
-zip_push R [] [] x y all one = (one, tt)
-zip_push R [] (b ∷ ys) x y all one = absurd all
-zip_push R (a ∷ xs) [] x y all one = absurd all
-zip_push R (a ∷ xs) (b ∷ ys) x y all one = (all.0, zip_push R xs ys x y all.1 one)
 
 reported : (k : ℕ) (job : Job) (answer : Turn) (report : Report) → IsOutcome job answer report
     → IsReportOf (k, job) report
@@ -29,7 +23,8 @@ module _ (old now : HandView) (job : Job) (answer : Turn) (report : Report) (add
   pub one_more : AreReported now.got (reports now ++ report ∷ [])
   one_more =
       subst (λ (h : HandView). AreReported h.got (reports h ++ report ∷ [])) (sym adds.1)
-      (zip_push IsReportOf old.got (reports old) (adds.0, job) report all (reported adds.0 job answer report outcome))
+      (all_zipped_more IsReportOf old.got (reports old) (adds.0, job) report all
+      (reported adds.0 job answer report outcome))
 
   -- and it was reported
   module _ (new : HandView) (got : new.got ≡ now.got) (given : reports new ≡ reports now ++ report ∷ []) where

@@ -7,8 +7,11 @@
 //! let Studio { mut keeper, mut pens, mut hands, mut eyes } = Studio::open(&rt, alloc, core, 1, 2, 1)?;
 //! pens[0].submit(delta)?;                // in the thread of who draws
 //! hands[0].turn(&Open);                  // in the thread of a hand
-//! keeper.turn();                         // in the keeper's thread: edits, reports, hints and jobs
-//! keeper.settle_in_bands(&rt, 4, 4096)?; // where much is left, in threads beside the keeper's
+//! keeper.take_in();                      // in the keeper's thread: edits, reports and hints
+//! if keeper.is_for_bands(4) {            // where much is left, in threads beside the keeper's
+//!     keeper.settle_in_bands(&rt, 4, 4096)?;
+//! }
+//! keeper.turn();                         // edits, reports, hints, and jobs for the hands
 //! let told = keeper.show(&rt)?;          // a shot of the core as it is
 //! eyes[0].learn(told);                   // in the thread of who looks
 //! eyes[0].look()?.pixel(p);
@@ -21,8 +24,8 @@
 //! reconstruction, and is the reconstruction where no work is left. A shot is the core as it was at a show: no glimpse
 //! goes back, and a quiet one is the reconstruction. Once a studio is closed, each edit of each pen was taken, once.
 //!
-//! [`Keeper::turn`], [`Keeper::recall`] and [`Keeper::abandon`] wait for nobody, and neither do pens, hands and eyes.
-//! [`Keeper::settle_in_bands`] waits for the threads that it starts itself.
+//! [`Keeper::turn`], [`Keeper::take_in`], [`Keeper::recall`] and [`Keeper::abandon`] wait for nobody, and neither do
+//! pens, hands and eyes. [`Keeper::settle_in_bands`] waits for the threads that it starts itself.
 //! [`Studio::open`], [`Keeper::show`], [`Keeper::close`] and [`Keeper::end`] may wait for glimpses that are held.
 //!
 //! Shots, the publisher that shows them and the eyes that look at them stand in `shots`, and can be had without a core.

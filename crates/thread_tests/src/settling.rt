@@ -33,13 +33,23 @@ fn is_for_two(keeper: &Keeper) -> bool {
     keeper.is_for_bands(2) & !keeper.is_for_bands(3)
 }
 
-// 65 jobs are out when the keeper settles: all are abandoned, and each tile is swept once. What a hand does with one of
-// them then changes nothing.
+// Whether the edit that waits is taken in, and no job is out for what it leaves.
+fn takes_in(scene: &mut Scene) -> bool
+    requires { IsCompany scene.old }
+    ensures { IsCompany scene.new }
+{
+    let taken = scene.keeper.take_in();
+    let is_alone = (taken.edits == 1) & (taken.results == 0) & (taken.jobs == 0);
+    is_alone & scene.keeper.core().next_out(0).is_none() & is_for_two(&scene.keeper)
+}
+
+// An edit is taken in, and the turn behind it pushes 65 jobs. They are out when the keeper settles: all are abandoned,
+// and each tile is swept once. What a hand does with one of them then changes nothing.
 fn plays<R: Threads + Sync>(rt: &R, alloc: Global, scene: &mut Scene) -> bool
     requires { IsCompany scene.old }
     ensures { IsCompany scene.new }
 {
-    let is_in = submits(scene, Edit::Spread.delta(alloc));
+    let is_in = submits(scene, Edit::Spread.delta(alloc)) & takes_in(scene);
     let are_out = (turn(scene).jobs == 65) & is_for_two(&scene.keeper);
     let is_settled = settles_by(
         rt,

@@ -7,7 +7,7 @@ ghost use Rattle.core_dispatch.specs.Handing.{HaveHanded};
 ghost use Rattle.core_dispatch.specs.Jobs.{with_core};
 ghost use Rattle.core_dispatch.specs.Pens.{KeepsPens};
 ghost use Rattle.core_dispatch.specs.Taking.{HaveTakenEdits, IsRound};
-ghost use Rattle.core_dispatch.specs.Turns.{TakesTurn};
+ghost use Rattle.core_dispatch.specs.Turns.{TakesIn, TakesTurn};
 
 use super::Dispatcher;
 use crate::taken::Edits;
@@ -26,16 +26,32 @@ impl Dispatcher {
     pub fn turn(&mut self) -> Turned
         ensures { TakesTurn self.old result self.new }
     {
+        let taken = self.take_in();
+        let jobs = self.push_jobs();
+        Turned {
+            jobs: jobs.jobs,
+            memory: taken.memory | jobs.memory,
+            ..taken
+        }
+    }
+
+    /// The part of a turn before its jobs: of each pen at most one edit is taken, and merged or listed; of each hand at
+    /// most one report is taken, and given to the core; and each hint that waits is handed over. No job is pushed, so
+    /// that hands are not given what is swept in bands. It waits for nobody.
+    ///
+    /// Afterwards no hint waits.
+    pub fn take_in(&mut self) -> Turned
+        ensures { TakesIn self.old result self.new }
+    {
         let edits = self.take_edits();
         let results = self.take_reports();
         let hints = self.hand_all();
-        let jobs = self.push_jobs();
         Turned {
             edits: edits.edits,
             results: results.results,
             hints,
-            jobs: jobs.jobs,
-            memory: edits.memory | (results.memory | jobs.memory),
+            jobs: 0,
+            memory: edits.memory | results.memory,
         }
     }
 

@@ -2,7 +2,7 @@
 
 ghost use Rattle.std.specs.Prelude.{◌≡◌, ◌+◌, ◌&&◌, IsTrue};
 ghost use Rattle.core_dispatch.specs.Pens.{KeepsPens};
-ghost use Rattle.core_dispatch.specs.Turns.{TakesTurn};
+ghost use Rattle.core_dispatch.specs.Turns.{TakesIn, TakesTurn};
 ghost use Rattle.studio.specs.Keeping.{dispatcher_of, books_of, IsUntouched};
 
 use super::Keeper;
@@ -32,6 +32,29 @@ impl Keeper {
         self.has_state = both(self.has_state, has_merged_none);
         self.has_image = both(self.has_image, is_still(has_merged_none, &turned));
         turned
+    }
+
+    /// The part of a turn before its jobs: of each pen at most one edit is taken, and merged or listed; of each hand at
+    /// most one report is taken, and given to the core; and each hint that waits is handed over. No job is pushed. So
+    /// [`Keeper::is_for_bands`] can be asked behind it, and hands are not given what is swept in bands. It waits for
+    /// nobody.
+    ///
+    /// Afterwards no hint waits.
+    pub fn take_in(&mut self) -> Turned
+        ensures taken { TakesIn (dispatcher_of self.old) result (dispatcher_of self.new) }
+        ensures pens { KeepsPens (books_of self.old) (books_of self.new) }
+        ensures untouched { IsUntouched self.old self.new }
+    {
+        let refused = self.dispatcher.books().refusals().len();
+        let taken = self.dispatcher.take_in();
+        let has_merged_none = is_sum(
+            self.dispatcher.books().refusals().len(),
+            refused,
+            taken.edits,
+        );
+        self.has_state = both(self.has_state, has_merged_none);
+        self.has_image = both(self.has_image, is_still(has_merged_none, &taken));
+        taken
     }
 }
 

@@ -1,4 +1,3 @@
-use Rattle.std.proofs.Common.{refl}
 use Rattle.node_session.proofs.Settled.{in_bands_keeps}
 use Rattle.node_session.proofs.painting.settle_in_threads.Goals as goal
 

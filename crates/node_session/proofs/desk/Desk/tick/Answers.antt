@@ -15,6 +15,6 @@ returns-clause-works g c =
 
 pub returns-clause-worked : goal.returns-clause-worked
 returns-clause-worked g c =
-    subst (λ (b : BooksView). HasWorked 1024 4096 c.args.self.now.keeper b)
+    subst (λ (b : BooksView). HasWorked 1024 c.args.threads 32768 c.args.self.now.keeper b)
     (sym (ap (λ (k : Keeper). books_of k) c.exchange.ensures.keeper ∙ c.show.ensures.books))
     c.work.ensures.worked
