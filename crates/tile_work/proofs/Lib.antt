@@ -30,4 +30,5 @@ pub mod RenewingRises
 pub mod RenewingSpans
 pub mod RenewingStrokes
 pub mod RenewingTiles
+pub mod RenewingRuns
 pub mod RenewingWork

@@ -5,7 +5,7 @@ use Rattle.std.proofs.lemmas.Bool.{cases_eq, cases_lt}
 use Rattle.grid_core.specs.{declared.pixel.Pixel.Pixel, Raster.Raster, Raster.value_at, Tiles.Tiles, Tiles.AreTouching}
 use Rattle.border_queues.specs.TileWork.{TileWork, reset_work, work_of}
 use Rattle.tile_work.specs.TileSet.{Has, HasNoneFrom, IsFirstFrom}
-use Rattle.tile_work.specs.Renewing.{IsDirtyIf, TouchesMarked, IsTileKept, AreReset, IsOneReset}
+use Rattle.tile_work.specs.Renewing.{AreCopiedIn, AreReset, IsDirtyIf, IsOneReset, IsTileKept, TouchesMarked}
 use Rattle.core_rules.specs.{Merge.IsReset, Hits.IsInTile}
 use Rattle.tile_work.proofs.RenewingWork.{dirty_joins, dirty_stays, dirty_alike}
 
@@ -81,11 +81,12 @@ last_or_before marks from tile t first (has, below) = elim (cases_lt t from) [
 ]
 
 -- one tile more is reset, the first marked one from a place on
-module _ (tiling : Tiles) (marks : List Bool) (from tile : ℕ) (marker old middle new : Raster)
+module _ (tiling : Tiles) (marks : List Bool) (from tile : ℕ) (marker image : Raster)
     (before between after : List TileWork) (count : length between ≡ length before)
     (first : IsFirstFrom marks from tile)
-    (so_far : AreReset tiling (IsMarkedBefore marks from) marker old middle before between)
-    (one : IsOneReset tiling marker middle new between after tile) where
+    (so_far : AreReset tiling (IsMarkedBefore marks from) marker image image before between)
+    (one : IsOneReset tiling between after tile)
+    (shown : (p : Pixel) → IsInTile tiling tile p → value_at image p ≡ value_at marker p) where
   before_or_last : (t : ℕ) → IsMarkedBefore marks from t → IsMarkedBefore marks (tile + 1) t
   before_or_last t (has, below) = (has, omega (arith, first.from))
 
@@ -108,33 +109,31 @@ module _ (tiling : Tiles) (marks : List Bool) (from tile : ℕ) (marker old midd
   )
 
   pub own_tile : (t : ℕ) → t ≡ tile → t < length before
-      → IsReset tiling (value_at marker) new (work_of before t) (work_of after t) t
+      → IsReset tiling (value_at marker) image (work_of before t) (work_of after t) t
   own_tile t same within = elim (so_far t within) [
     | inl (marked, reset) ↦ absurd (omega (arith, marked.1, first.from, same))
     | inr (not_marked, kept) ↦ record {
       work =
           reset_later kept.work
           (subst (λ u. work_of after u ≡ reset_work (work_of between u)) (sym same) one.own);
-      image = λ p in_tile. one.within p (subst (λ u. IsInTile tiling u p) same in_tile);
+      image = λ p in_tile. shown p (subst (λ u. IsInTile tiling u p) same in_tile);
     }
   ]
 
   pub other_tile : (t : ℕ) → (t ≡ tile → ⊥) → t < length before
       → (IsMarkedBefore marks (tile + 1) t
-      × IsReset tiling (value_at marker) new (work_of before t) (work_of after t) t)
+      × IsReset tiling (value_at marker) image (work_of before t) (work_of after t) t)
       ⊎ ((IsMarkedBefore marks (tile + 1) t → ⊥)
-      × IsTileKept tiling (IsMarkedBefore marks (tile + 1)) old new (work_of before t) (work_of after t) t)
+      × IsTileKept tiling (IsMarkedBefore marks (tile + 1)) image image (work_of before t) (work_of after t) t)
   other_tile t other within =
       let now = one.others t (omega (arith, within, count)) other in
-      let stays : (p : Pixel) → IsInTile tiling t p → value_at new p ≡ value_at middle p =
-      λ p in_tile. one.beyond p in_tile.inside (λ e. other (sym in_tile.tile ∙ e)) in
       elim (so_far t within) [
         | inl (marked, reset) ↦ inl (
           before_or_last t marked,
           record {
             work = reset_stays (AreTouching tiling t tile) (work_of before t) (work_of between t) (work_of after t)
                 reset.work now;
-            image = λ p in_tile. stays p in_tile ∙ reset.image p in_tile;
+            image = reset.image;
           },
         )
         | inr (not_marked, kept) ↦ inr (
@@ -144,12 +143,12 @@ module _ (tiling : Tiles) (marks : List Bool) (from tile : ℕ) (marker old midd
           ],
           record {
             work = dirty_joins kept.work now (touches_more t);
-            values = λ p in_tile. stays p in_tile ∙ kept.values p in_tile;
+            values = kept.values;
           },
         )
       ]
 
-  pub reset_more : AreReset tiling (IsMarkedBefore marks (tile + 1)) marker old new before after
+  pub reset_more : AreReset tiling (IsMarkedBefore marks (tile + 1)) marker image image before after
   reset_more t within = elim (cases_eq t tile) [
     | inl same ↦ inl ((subst (λ u. Has marks u) (sym same) first.has, omega arith), own_tile t same within)
     | inr other ↦ other_tile t other within
@@ -162,4 +161,20 @@ pub same_generation : (tiling : Tiles) (is_marked : ℕ → Type 0) (marker old 
 same_generation tiling is_marked marker old new before after t are within never = elim (are t within) [
   | inl (marked, reset) ↦ absurd (never marked)
   | inr (not_marked, kept) ↦ ap (λ (w : TileWork). w.generation) kept.work.rest
+]
+
+-- where the marker was copied into the marked tiles before, the others have their old values
+pub reset_behind_copies : (tiling : Tiles) (is_marked : ℕ → Type 0) (marker old image : Raster)
+    (before after : List TileWork) → AreCopiedIn tiling is_marked marker old image
+    → AreReset tiling is_marked marker image image before after → AreReset tiling is_marked marker old image before after
+reset_behind_copies tiling is_marked marker old image before after copied are t within = elim (are t within) [
+  | inl reset ↦ inl reset
+  | inr (not_marked, kept) ↦ inr (
+    not_marked,
+    record {
+      work = kept.work;
+      values = λ p in_tile. copied.beyond p in_tile.inside
+          (λ marked. not_marked (subst is_marked in_tile.tile marked));
+    },
+  )
 ]

@@ -3,13 +3,9 @@ use Rattle.std.proofs.Common.{◌≡◌, ℕ, ◌<◌, List, length, get_or, sym
 use Rattle.std.proofs.Common.{slice_set, Contains}
 use Rattle.std.proofs.{Math.ListN.length-set, lemmas.List.Elements.Contains-get_or}
 use Rattle.std.proofs.lemmas.List.{get_or-set_same, get_or-set_other}
-use Rattle.grid_core.specs.{declared.pixel.Pixel.Pixel, declared.rect.Rect.Rect, Raster.Raster, Raster.IsInside}
-use Rattle.grid_core.specs.{Rects.IsInRect, TileLaws.EachPixelInOneTile}
-use Rattle.grid_core.specs.Tiles.{Tiles, IsTiled, AreTouching, count_of, tile_of, rect_of}
-use Rattle.border_queues.specs.OpenEdges.{IsOnTiling}
+use Rattle.grid_core.specs.Tiles.{Tiles, AreTouching, count_of}
 use Rattle.border_queues.specs.TileWork.{TileWork, idle, reset_work, work_of}
-use Rattle.core_rules.specs.Image.{IsOfSize}
-use Rattle.tile_work.specs.Renewing.{IsDirtyIf, AreDirtyWhere, IsCopiedIn, IsOneReset}
+use Rattle.tile_work.specs.Renewing.{IsDirtyIf, AreDirtyWhere, IsOneReset}
 use Rattle.tile_work.proofs.{RenewingResets.reset_stays, RenewingWork.dirty_alike}
 
 -- touching is mutual
@@ -29,24 +25,12 @@ touching_are_tiles tiling tile around listed is_listed members k within =
     subst (λ (l : List ℕ). Contains l (get_or listed k 0)) is_listed (Contains-get_or listed k 0 within) in
     ((members (get_or listed k 0)).0 there).1
 
--- the pixels of a tile are copied, its work is reset, and the tiles around it are made dirty
-module _ (tiling : Tiles) (tile : ℕ) (rect : Rect) (marker old new : Raster) (before middle after : List TileWork)
-    (around listed : List ℕ) (tiled : IsTiled tiling) (on_tiling : IsOnTiling tiling marker)
-    (size : IsOfSize marker old) (is_tile : tile < count_of tiling) (in_one : EachPixelInOneTile)
-    (is_rect : rect ≡ rect_of tiling tile) (copied : IsCopiedIn rect marker old new)
-    (count : length before ≡ count_of tiling)
+-- the work of a tile is reset, and the tiles around it are made dirty
+module _ (tiling : Tiles) (tile : ℕ) (before middle after : List TileWork) (around listed : List ℕ)
+    (is_tile : tile < count_of tiling) (count : length before ≡ count_of tiling)
     (is_reset : middle ≡ slice_set before tile (reset_work (work_of before tile))) (is_listed : listed ≡ around)
     (members : (other : ℕ) → Contains around other ↔ (AreTouching tiling tile other × (other < count_of tiling)))
     (dirty : AreDirtyWhere (Contains listed) middle after) where
-  in_old : (p : Pixel) → IsInside tiling.width tiling.height p → IsInside old.width old.height p
-  in_old p inside =
-      (omega (arith, inside.0, size.width, on_tiling.width), omega (arith, inside.1, size.height, on_tiling.height))
-
-  in_rect : (p : Pixel) → IsInside tiling.width tiling.height p → IsInRect rect p ↔ (tile_of tiling p ≡ tile)
-  in_rect p inside =
-      subst (λ (r : Rect). IsInRect r p ↔ (tile_of tiling p ≡ tile)) (sym is_rect)
-      ((in_one tiling p tiled inside).1 tile is_tile)
-
   same_count : length middle ≡ length before
   same_count = ap length is_reset ∙ length-set before tile (reset_work (work_of before tile))
 
@@ -67,9 +51,8 @@ module _ (tiling : Tiles) (tile : ℕ) (rect : Rect) (marker old new : Raster) (
         λ touching. (members t).1 (touching_back tiling t tile touching, omega (arith, within, count)),
       )
 
-  pub one_reset : IsOneReset tiling marker old new before after tile
+  pub one_reset : IsOneReset tiling before after tile
   one_reset = record {
-    size = copied.size;
     count = dirty.count ∙ same_count;
     own =
         reset_stays (Contains listed tile) (work_of before tile) (work_of middle tile) (work_of after tile) own_row
@@ -78,7 +61,4 @@ module _ (tiling : Tiles) (tile : ℕ) (rect : Rect) (marker old new : Raster) (
         dirty_alike (touched t within)
         (subst (λ (w : TileWork). IsDirtyIf (Contains listed t) w (work_of after t)) (other_row t other)
         (dirty.each t (omega (arith, within, same_count))));
-    within = λ p in_tile.
-        copied.within p (in_old p in_tile.inside) ((in_rect p in_tile.inside).1 in_tile.tile);
-    beyond = λ p inside out. copied.beyond p (in_old p inside) (λ has. out ((in_rect p inside).0 has));
   }

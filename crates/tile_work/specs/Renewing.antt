@@ -2,7 +2,7 @@
 use Rattle.std.specs.Prelude.{◌≡◌, ℕ, ◌+◌, ◌*◌, ◌/◌, ◌<◌, ◌≤◌, ◌⊎◌, ◌↔◌, Bool, max, if◌then◌else◌, IsTrue, List, length}
 use Rattle.std.specs.Prelude.{slice_index, Contains}
 use Rattle.grid_core.specs.{declared.bounds.Bounds.Bounds, declared.conn.Conn.Conn, declared.pixel.Pixel.Pixel}
-use Rattle.grid_core.specs.{declared.rect.Rect.Rect, Bounds.IsInBounds, Neighbours.AreNeighbours, Rects.IsInRect}
+use Rattle.grid_core.specs.{declared.rect.Rect.Rect, Bounds.IsInBounds, Neighbours.AreNeighbours, Rects.IsInRect, Rects.RectFits}
 use Rattle.grid_core.specs.Raster.{Raster, IsInside, value_at}
 use Rattle.grid_core.specs.Tiles.{Tiles, tile_of, rect_of, count_of, AreTouching}
 use Rattle.border_queues.specs.{OpenEdges.IsOnTiling, TileWork.TileWork, TileWork.work_of, TileWork.reset_work}
@@ -42,16 +42,28 @@ AreReset tiling is_marked marker old new before after =
     → (is_marked t × IsReset tiling (value_at marker) new (work_of before t) (work_of after t) t)
     ⊎ ((is_marked t → ⊥) × IsTileKept tiling is_marked old new (work_of before t) (work_of after t) t)
 
--- this tile is reset, each tile that touches it is dirty, and nothing else changes
-pub record IsOneReset (tiling : Tiles) (marker old new : Raster) (before after : List TileWork) (tile : ℕ)
-    : Type 0 where
-  pub size : IsOfSize old new
+-- the work of this tile is reset, each tile that touches it is dirty, and nothing else changes
+pub record IsOneReset (tiling : Tiles) (before after : List TileWork) (tile : ℕ) : Type 0 where
   pub count : length after ≡ length before
   pub own : work_of after tile ≡ reset_work (work_of before tile)
   pub others : (t : ℕ) → t < length before → (t ≡ tile → ⊥)
       → IsDirtyIf (AreTouching tiling t tile) (work_of before t) (work_of after t)
-  pub within : (p : Pixel) → IsInTile tiling tile p → value_at new p ≡ value_at marker p
-  pub beyond : (p : Pixel) → IsInside tiling.width tiling.height p → (tile_of tiling p ≡ tile → ⊥)
+
+-- the rectangle has the pixels of the tiles from the first one up to the end, all of which are in the set
+pub record IsRun (tiling : Tiles) (set : List Bool) (first : ℕ) (rect : Rect) (end : ℕ) : Type 0 where
+  pub order : first < end
+  pub within : end ≤ count_of tiling
+  pub has : (t : ℕ) → first ≤ t → t < end → Has set t
+  pub fits : RectFits tiling.width tiling.height rect
+  pub pixels : (p : Pixel) → IsInside tiling.width tiling.height p
+      → IsInRect rect p ↔ ((first ≤ tile_of tiling p) × (tile_of tiling p < end))
+
+-- the new image has the marker's values in these tiles, and the old ones elsewhere
+pub record AreCopiedIn (tiling : Tiles) (is_marked : ℕ → Type 0) (marker old new : Raster) : Type 0 where
+  pub size : IsOfSize old new
+  pub within : (p : Pixel) → IsInside tiling.width tiling.height p → is_marked (tile_of tiling p)
+      → value_at new p ≡ value_at marker p
+  pub beyond : (p : Pixel) → IsInside tiling.width tiling.height p → (is_marked (tile_of tiling p) → ⊥)
       → value_at new p ≡ value_at old p
 
 -- ---- values that are taken over from the marker

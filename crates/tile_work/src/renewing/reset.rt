@@ -6,7 +6,8 @@ ghost use Rattle.grid_core.specs.Tiles.{IsTiled, count_of};
 ghost use Rattle.tile_generations.specs.Generations.{max_generation};
 ghost use Rattle.core_rules.specs.Image.{IsOfSize};
 ghost use Rattle.tile_work.specs.TileSet.{Has};
-ghost use Rattle.tile_work.specs.Renewing.{AreAtHand, AreCutAlike, AreMarkedReset, IsOneReset};
+ghost use Rattle.border_queues.specs.OpenEdges.{IsOnTiling};
+ghost use Rattle.tile_work.specs.Renewing.{AreCopiedIn, AreCutAlike, AreMarkedReset, IsOneReset, IsRun};
 ghost use Rattle.tile_work.specs.Renewing.{AreResetsWithin, AreDirtyWhere, AreWidenedNear, IsCopiedIn};
 ghost use Rattle.border_queues.specs.TileWork.{work_of};
 
@@ -37,35 +38,70 @@ pub fn reset_marked(
 {
     prove!(marks.len() == tiling.count());
     prove!(image.width() == marker.width());
+    copy_marked(image, marker, tiling, marks);
     let mut from = 0;
     while let Some(tile) = marks.first_from(from) {
-        reset_tile(image, marker, tiling, work, bounds, tile);
+        reset_tile(tiling, work, bounds, tile);
         from = tile + 1;
     }
     marks.clear();
 }
 
-// Resets one tile. Each tile that touches it is dirty, and widened by its pixels beside the tile.
-fn reset_tile(
-    image: &mut Grid,
-    marker: &Grid,
-    tiling: &Tiling,
-    work: &mut WorkTable,
-    bounds: &mut OpenBounds,
-    tile: usize,
-)
-    requires at_hand { AreAtHand tiling.now marker.now image.old work.old }
+// Copies the marker's values in each marked tile over the image's, and those of tiles that stand side by side at once.
+fn copy_marked(image: &mut Grid, marker: &Grid, tiling: &Tiling, marks: &TileSet)
+    requires size { IsOfSize marker.now image.old }
+    requires marker { IsOnTiling tiling.now marker.now }
+    requires tiled { IsTiled tiling.now }
+    requires marks { length marks.now ≡ count_of tiling.now }
+    ensures { AreCopiedIn tiling.now (Has marks.now) marker.now image.old image.new }
+{
+    prove!(marks.len() == tiling.count());
+    prove!(image.width() == marker.width());
+    let mut from = 0;
+    while let Some(tile) = marks.first_from(from) {
+        let (rect, end) = run_from(tiling, marks, tile);
+        copy_rect(image, marker, rect);
+        from = end;
+    }
+}
+
+// The tiles of the set that stand side by side from this one on: their rectangle, and the tile behind the last one.
+fn run_from(tiling: &Tiling, set: &TileSet, first: usize) -> (Rect, usize)
+    requires tiled { IsTiled tiling.now }
+    requires count { length set.now ≡ count_of tiling.now }
+    requires first { Has set.now first }
+    ensures { IsRun tiling.now set.now first result.0 result.1 }
+{
+    each_pixel_in_one_tile();
+    let mut rect = tiling.rect(first);
+    let mut end = first + 1;
+    for tile in first + 1..set.len() {
+        if !set.contains(tile) {
+            break;
+        }
+        let next = tiling.rect(tile);
+        if next.x != rect.x + rect.w || next.y != rect.y || next.h != rect.h {
+            break;
+        }
+        rect.w += next.w;
+        end = tile + 1;
+    }
+    (rect, end)
+}
+
+// Resets the work of one tile. Each tile that touches it is dirty, and widened by its pixels beside the tile.
+fn reset_tile(tiling: &Tiling, work: &mut WorkTable, bounds: &mut OpenBounds, tile: usize)
+    requires count { length work.old ≡ count_of tiling.now }
     requires tiled { IsTiled tiling.now }
     requires tile { tile < count_of tiling.now }
     requires unspent { (work_of work.old tile).generation < max_generation }
     requires bounds { length bounds.old ≡ count_of tiling.now }
-    ensures reset { IsOneReset tiling.now marker.now image.old image.new work.old work.new tile }
+    ensures reset { IsOneReset tiling.now work.old work.new tile }
     ensures bounds { AreResetsWithin tiling.now (λ t. t ≡ tile) bounds.old bounds.new }
 {
     each_pixel_in_one_tile();
     neighbours_lie_in_touching_tiles();
     let rect = tiling.rect(tile);
-    copy_rect(image, marker, rect);
     work.reset(tile);
     let around = tiling.touching(tile);
     mark_all_dirty(work, around.as_slice());

@@ -1,15 +1,14 @@
 -- What the loop of `reset_marked` keeps.
 use Rattle.std.proofs.Common.{◌≡◌, ◌-◌, length}
-use Rattle.core_rules.specs.Image.{IsOfSize}
 use Rattle.tile_work.specs.Renewing.{AreReset, AreResetsWithin}
 use Rattle.tile_work.proofs.RenewingResets.{IsMarkedBefore}
 use Rattle.tile_work.proofs.renewing.reset.reset_marked.Given as goal
 
--- the marked tiles before this one are reset
+-- the work of the marked tiles before this one is reset
 abbrev pub invariant-loop-tile : goal.invariant-loop-tile
 invariant-loop-tile l =
-    IsOfSize l.fn.image l.image × (length l.work ≡ length l.fn.work)
-    × AreReset l.tiling (IsMarkedBefore l.marks l.from) l.marker l.fn.image l.image l.fn.work l.work
+    (length l.work ≡ length l.fn.work)
+    × AreReset l.tiling (IsMarkedBefore l.marks l.from) l.marker l.image l.image l.fn.work l.work
     × AreResetsWithin l.tiling (IsMarkedBefore l.marks l.from) l.fn.bounds l.bounds
 
 -- the tiles that are left to look at

@@ -13,7 +13,7 @@ mark_all_dirty-requires c = λ k within.
     let work = c.args.work.now in
     let tile = c.args.tile in
     let count : length c.reset.new.self ≡ count_of c.args.tiling.now =
-    ap length c.reset.ensures ∙ length-set work tile (reset_work (work_of work tile)) ∙ c.requires.at_hand.count in
+    ap length c.reset.ensures ∙ length-set work tile (reset_work (work_of work tile)) ∙ c.requires.count in
     omega (
       arith,
       count,
@@ -28,11 +28,8 @@ widen_near-requires-clause-tiles c =
 
 pub returns-clause-reset : goal.returns-clause-reset
 returns-clause-reset c =
-    let given = c.requires.at_hand in
-    one_reset c.args.tiling.now c.args.tile c.rect-rect.result c.args.marker.now c.args.image.now
-    c.copy_rect.new.image c.args.work.now c.reset.new.self c.mark_all_dirty.new.work c.touching-around.result
-    c.as_slice.result.now c.requires.tiled given.marker_is given.size c.requires.tile
-    c.each_pixel_in_one_tile.ensures c.rect-rect.ensures.value c.copy_rect.ensures given.count c.reset.ensures
+    one_reset c.args.tiling.now c.args.tile c.args.work.now c.reset.new.self c.mark_all_dirty.new.work
+    c.touching-around.result c.as_slice.result.now c.requires.tile c.requires.count c.reset.ensures
     c.as_slice.ensures.tiles c.touching-around.ensures.members c.mark_all_dirty.ensures
 
 pub returns-clause-bounds : goal.returns-clause-bounds
