@@ -44,6 +44,7 @@ pub record IsCounted (before : Band) (ts : List ℕ) (after : Band) : Type 0 whe
   pub conn : after.conn ≡ before.conn
   pub tiling : after.tiling ≡ before.tiling
   pub limit : after.limit ≡ before.limit
+  pub least : after.least ≡ before.least
   pub enough : places before.told ≤ places after.told
 
 -- tiles of the band were swept and counted
@@ -56,12 +57,12 @@ pub record AreTilesSwept (whole : Tiles) (above : ℕ) (mask : List ℕ) (before
   pub counted : IsCounted before ts after
   pub cells : length new ≡ length old
 
--- so they were until no tile that may be swept was dirty, or as many were swept as may be
+-- so they were until no tile that may be swept was dirty, or as many were swept as may be, or as have to be
 pub record IsBandSwept (whole : Tiles) (above : ℕ) (mask : List ℕ) (before : Band) (old : List ℕ) (after : Band)
     (new : List ℕ) : Type 0 where
   pub tiles : AreTilesSwept whole above mask before old after new
-  pub none_left : after.jobs < after.limit → (t : ℕ) → IsInner whole above before.tiling t
-      → IsDirty (strip_of after mask new).core t → ⊥
+  pub none_left : after.jobs < after.limit → after.jobs < after.least → (t : ℕ)
+      → IsInner whole above before.tiling t → IsDirty (strip_of after mask new).core t → ⊥
 
 -- so it was with each of some bands that stand one below another
 abbrev pub AreBandsSwept : Tiles → ℕ → List ℕ → List ℕ → List Band → List ℕ → List Band → Type 0

@@ -132,6 +132,7 @@ none_swept whole above mask band image = record {
     conn = refl;
     tiling = refl;
     limit = refl;
+    least = refl;
     enough = omega arith;
   };
   cells = refl;
@@ -143,10 +144,10 @@ pub one_swept_more : (whole : Tiles) (above : ℕ) (mask : List ℕ) (before : B
     → IsSweptInBand whole above (strip_of now mask image).core now.bounds t (strip_of after mask new).core after.bounds
     → length new ≡ length image → t < length now.swept → after.swept ≡ set now.swept t true
     → after.jobs ≡ now.jobs + 1 → now.jobs < now.limit → after.conn ≡ now.conn → after.tiling ≡ now.tiling
-    → after.limit ≡ now.limit → places now.told ≤ places after.told
+    → after.limit ≡ now.limit → after.least ≡ now.least → places now.told ≤ places after.told
     → AreTilesSwept whole above mask before old after new
 one_swept_more whole above mask before old now image t after new so_far one cells within set_is jobs few conn tiling
-    limit enough =
+    limit least enough =
     let counted = so_far.counted in
     record {
       ts = so_far.ts ++ t ∷ [];
@@ -162,6 +163,7 @@ one_swept_more whole above mask before old now image t after new so_far one cell
         conn = conn ∙ counted.conn;
         tiling = tiling ∙ counted.tiling;
         limit = limit ∙ counted.limit;
+        least = least ∙ counted.least;
         enough = omega (arith, enough, counted.enough);
       };
       cells = cells ∙ so_far.cells;
@@ -177,18 +179,19 @@ still_ready before ts after ready counted = record {
   count = counted.gained.count ∙ ready.count ∙ ap count_of (sym counted.tiling);
 }
 
--- the band is swept, where no tile from the first one on and before the end can be taken, or it may sweep no more
+-- the band is swept, where no tile from the first one on and before the end can be taken, or it may sweep no more, or
+-- does not have to
 pub swept_to_the_end : (whole : Tiles) (above : ℕ) (mask : List ℕ) (before : Band) (old : List ℕ) (now : Band)
     (image : List ℕ) (first end : ℕ) → AreTilesSwept whole above mask before old now image
     → IsSomewhere whole above (strip_of now mask image)
     → ((t : ℕ) → ((first ≤ t) × (t < end)) ↔ IsInner whole above before.tiling t)
-    → (now.jobs < now.limit → (t : ℕ) → first ≤ t → t < end → CanBeTaken now.work t → ⊥)
+    → (now.jobs < now.limit → now.jobs < now.least → (t : ℕ) → first ≤ t → t < end → CanBeTaken now.work t → ⊥)
     → IsBandSwept whole above mask before old now image
 swept_to_the_end whole above mask before old now image first end so_far somewhere inner none = record {
   tiles = so_far;
-  none_left = λ more t is_inner dirty.
+  none_left = λ more few t is_inner dirty.
       let between = (inner t).1 is_inner in
-      none more t between.0 between.1 (dirty, none_out whole above (strip_of now mask image) somewhere t dirty.0);
+      none more few t between.0 between.1 (dirty, none_out whole above (strip_of now mask image) somewhere t dirty.0);
 }
 
 -- ---- all bands

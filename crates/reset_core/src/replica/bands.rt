@@ -11,6 +11,7 @@ use border_queues::laws::edges_are_open;
 use grid_core::{Conn, Tiling};
 use raster_sweeps::Room;
 use std::marker::Sync;
+use std::sync::atomic::{AtomicBool, Ordering};
 use std::thread::{Threads, join_mut};
 use tile_work::{OpenBounds, TileSet, WorkTable};
 
@@ -27,15 +28,25 @@ pub(super) struct Band {
     /// How many tiles were swept, each as often as it was, and at most how many may be.
     pub(super) jobs: u64,
     pub(super) limit: u64,
+    /// How many are swept at least before the band ends because another one has nothing left.
+    pub(super) least: u64,
     pub(super) room: Room,
     pub(super) told: Inbox,
 }
 
 impl Band {
-    // Sweeps tiles until none is dirty of those that may be swept, or so many were swept as it says.
+    // Sweeps tiles until none is dirty of those that may be swept, so many were swept as it says, or another band has
+    // nothing left. The flag says that one has.
     //
     // A tile whose hints go to another band is left: all tiles that touch a swept one stand in the band.
-    fn sweep(&mut self, whole: &Tiling, above: u32, mask: &[u16], image: &mut [u16])
+    fn sweep(
+        &mut self,
+        whole: &Tiling,
+        above: u32,
+        mask: &[u16],
+        image: &mut [u16],
+        is_near_end: &AtomicBool,
+    )
         requires somewhere { IsSomewhere whole.now above (strip_of self.old mask.now image.old) }
         requires sized { length mask.now ≡ length image.old }
         requires ready { IsReady self.old }
@@ -44,10 +55,15 @@ impl Band {
         edges_are_open();
         let (first, end) = inner_tiles(whole, above, &self.tiling);
         while self.jobs < self.limit {
+            if self.jobs >= self.least && is_near_end.load(Ordering::SeqCst) {
+                return;
+            }
             let Some(tile) = self.work.next_ready(first) else {
+                is_near_end.store(true, Ordering::SeqCst);
                 return;
             };
             if tile >= end {
+                is_near_end.store(true, Ordering::SeqCst);
                 return;
             }
             sweep_one(
@@ -96,7 +112,17 @@ pub(super) fn sweep_bands<R: Threads + Sync>(
     ensures { AreBandsSwept whole.now above mask.now image.old bands.old image.new bands.new }
 {
     let in_threads = are_two_dirty(bands);
-    sweep_downwards(rt, whole, above, mask, image, bands, in_threads);
+    let is_near_end = &AtomicBool::new(false);
+    sweep_downwards(
+        rt,
+        whole,
+        above,
+        mask,
+        image,
+        bands,
+        in_threads,
+        is_near_end,
+    );
 }
 
 // Whether two bands at least have dirty tiles.
@@ -126,6 +152,7 @@ fn sweep_downwards<R: Threads + Sync>(
     image: &mut [u16],
     bands: &mut [Band],
     in_threads: bool,
+    is_near_end: &AtomicBool,
 )
     requires somewhere { AreSomewhere whole.now above (strips_of mask.now image.old bands.old) }
     requires sized { length mask.now ≡ length image.old }
@@ -151,11 +178,21 @@ fn sweep_downwards<R: Threads + Sync>(
             mask_below,
             image_below,
             rest,
+            is_near_end,
         );
         return;
     }
-    band.sweep(whole, above, mask_here, here);
-    sweep_downwards(rt, whole, below, mask_below, image_below, rest, in_threads);
+    band.sweep(whole, above, mask_here, here, is_near_end);
+    sweep_downwards(
+        rt,
+        whole,
+        below,
+        mask_below,
+        image_below,
+        rest,
+        in_threads,
+        is_near_end,
+    );
 }
 
 // Sweeps a band and, beside it, those below.
@@ -171,6 +208,7 @@ fn sweep_both<R: Threads + Sync>(
     mask_below: &[u16],
     image_below: &mut [u16],
     rest: &mut [Band],
+    is_near_end: &AtomicBool,
 )
     requires here { IsSomewhere whole.now above (strip_of band.old mask.now image.old) }
     requires sized { length mask.now ≡ length image.old }
@@ -188,13 +226,24 @@ fn sweep_both<R: Threads + Sync>(
                 × (length mask.now ≡ length image.now) × IsReady band.now }
             ensures { IsBandSwept whole.entry.now above mask.entry.now band.entry.now image.entry.now band.exit.now
                 image.exit.now }
-        { band.sweep(whole, above, mask, image) },
+        { band.sweep(whole, above, mask, image, is_near_end) },
         &mut || -> ()
             requires { AreSomewhere whole.now below (strips_of mask_below.now image_below.now rest.now)
                 × (length mask_below.now ≡ length image_below.now) × AreReady rest.now }
             ensures { AreBandsSwept whole.entry.now below mask_below.entry.now image_below.entry.now rest.entry.now
                 image_below.exit.now rest.exit.now }
-        { sweep_downwards(rt, whole, below, mask_below, image_below, rest, true) },
+        {
+            sweep_downwards(
+                rt,
+                whole,
+                below,
+                mask_below,
+                image_below,
+                rest,
+                true,
+                is_near_end,
+            )
+        },
     );
 }
 

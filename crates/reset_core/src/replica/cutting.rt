@@ -17,7 +17,8 @@ use std::alloc::Global;
 use tile_work::{OpenBounds, TileSet, WorkTable};
 
 /// Cuts bands out, from the first row of tiles on: a new one begins at each of these rows. A row that is not below the
-/// one before, or is not there, is passed over. Each band may sweep so many tiles.
+/// one before, or is not there, is passed over. Each band may sweep so many tiles, and sweeps at least so many before
+/// it ends because another one has nothing left.
 ///
 /// Errors: out of memory.
 pub(super) fn cut_bands(
@@ -28,6 +29,7 @@ pub(super) fn cut_bands(
     bounds: &OpenBounds,
     cuts: &[u32],
     limit: u64,
+    least: u64,
 ) -> Result<Vec<Band>, Memory>
     requires untouched { IsUntouched tiling.now work.now bounds.now }
     ensures cut { IfOk result (λ bands.
@@ -39,12 +41,14 @@ pub(super) fn cut_bands(
     let mut above = 0;
     for &below in cuts {
         if above < below && below < rows {
-            let band = cut_band(alloc, tiling, conn, work, bounds, above, below, limit)?;
+            let band = cut_band(
+                alloc, tiling, conn, work, bounds, above, below, limit, least,
+            )?;
             bands.push(band)?;
             above = below;
         }
     }
-    let band = cut_band(alloc, tiling, conn, work, bounds, above, rows, limit)?;
+    let band = cut_band(alloc, tiling, conn, work, bounds, above, rows, limit, least)?;
     bands.push(band)?;
     Ok(bands)
 }
@@ -59,6 +63,7 @@ fn cut_band(
     above: u32,
     below: u32,
     limit: u64,
+    least: u64,
 ) -> Result<Band, Memory>
     requires untouched { IsUntouched tiling.now work.now bounds.now }
     requires some { above < below }
@@ -86,6 +91,7 @@ fn cut_band(
         swept,
         jobs: 0,
         limit,
+        least,
         room,
         told,
     })

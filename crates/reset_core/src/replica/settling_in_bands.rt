@@ -25,7 +25,8 @@ use tile_work::TileSet;
 // Fewer dirty tiles, or fewer jobs, are not worth a second thread.
 const SHARED_TILES: usize = 64;
 
-// At most how often a band sweeps tiles in a round that has an end.
+// At most how often a band sweeps tiles in a round that has an end, and at least how often in one that ends once a band
+// has nothing left.
 const SWEEPS_OF_BAND: u64 = 256;
 
 // At most how often this thread sweeps tiles before the first round: most small edits end there.
@@ -37,10 +38,11 @@ const SWEEPS_BETWEEN: u64 = 32;
 impl Core {
     /// Works like [`settle_within`](Core::settle_within), with the tiles swept by up to so many threads: the rows of
     /// tiles are cut into bands, each of which is swept by a thread of its own but for the tiles that touch another
-    /// band, while this thread waits. So it goes on in rounds with other cuts while tiles are dirty. Where fewer than
-    /// 64 are at first, this thread sweeps up to 64 times before the first round, and where there are not two for each
-    /// band, or all dirty tiles lie along cuts, up to 32 times before the next one. With fewer than 64 jobs, and where
-    /// memory for bands is wanting, it sweeps what is left.
+    /// band, while this thread waits. So it goes on in rounds with other cuts while tiles are dirty. Where 64 are at
+    /// first, the first round ends once a band has nothing left, so that none is waited for, and the second once all
+    /// have. Where fewer are, this thread sweeps up to 64 times before the first round, and where there are not two for
+    /// each band, or all dirty tiles lie along cuts, up to 32 times before the next one. With fewer than 64 jobs, and
+    /// where memory for bands is wanting, it sweeps what is left.
     ///
     /// Which tiles are swept in which order is not said, and what comes of it is the same: the reconstruction, where no
     /// work is left. No more tiles are swept than there is work.
@@ -114,9 +116,9 @@ impl Core {
         many + few + rest
     }
 
-    // Where many tiles are dirty, sweeps them in two rounds, each of which goes on until no tile is dirty that may be
-    // swept, and says how often tiles were swept. The second round has its cuts in the middles of the first one's
-    // bands.
+    // Where many tiles are dirty, sweeps them in two rounds, and says how often tiles were swept. The first one ends
+    // once a band has nothing left, so that no thread waits long for the last one. The second has its cuts in the
+    // middles of the first one's bands, and goes on until no tile is dirty that may be swept.
     fn sweep_many<R: Threads + Sync>(
         &mut self,
         rt: &R,
@@ -135,7 +137,15 @@ impl Core {
         }
         self.count_by_rows(&mut shares.dirty);
         shares.share_out();
-        let first = self.round(rt, alloc, swept, &shares.cuts, &mut shares.swept, jobs);
+        let first = self.round(
+            rt,
+            alloc,
+            swept,
+            &shares.cuts,
+            &mut shares.swept,
+            jobs,
+            SWEEPS_OF_BAND,
+        );
         if first == jobs {
             return first;
         }
@@ -148,6 +158,7 @@ impl Core {
                 &shares.cuts,
                 &mut shares.swept,
                 jobs - first,
+                u64::MAX,
             )
     }
 
@@ -216,7 +227,15 @@ impl Core {
         }
         shares.share_out_beside_few(rows_of(&self.tiling()));
         let most = SWEEPS_OF_BAND.saturating_mul(bands).min(jobs);
-        let in_bands = self.round(rt, alloc, swept, &shares.cuts, &mut shares.swept, most);
+        let in_bands = self.round(
+            rt,
+            alloc,
+            swept,
+            &shares.cuts,
+            &mut shares.swept,
+            most,
+            u64::MAX,
+        );
         if in_bands > 0 {
             return in_bands;
         }
@@ -237,7 +256,8 @@ impl Core {
     }
 
     // Sweeps dirty tiles in bands that begin at these rows of tiles, each with its share of the jobs, and says how
-    // often tiles were swept: none where memory for the bands is wanting. It counts how many tiles of each row were.
+    // often tiles were swept: none where memory for the bands is wanting. It counts how many tiles of each row were. A
+    // band that has swept so often, `least`, ends once another one has nothing left.
     fn round<R: Threads + Sync>(
         &mut self,
         rt: &R,
@@ -246,6 +266,7 @@ impl Core {
         cuts: &[u32],
         by_rows: &mut [u32],
         jobs: u64,
+        least: u64,
     ) -> u64
         requires left { HasOnlySweeps self.old }
         requires count { length swept.old ≡ length self.old.tiles }
@@ -263,6 +284,7 @@ impl Core {
             &self.bounds,
             cuts,
             limit,
+            least,
         );
         let Ok(mut bands) = cut else {
             return 0;

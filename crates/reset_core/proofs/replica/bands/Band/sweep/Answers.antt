@@ -43,6 +43,7 @@ loop-self-preserved c =
       swept = c.insert.new.self;
       jobs = now.jobs + 1;
       limit = now.limit;
+      least = now.least;
       room = c.sweep_one.new.room;
       told = c.sweep_one.new.told;
     } in
@@ -62,7 +63,7 @@ loop-self-preserved c =
       swept =
           one_swept_more whole above mask before c.args.image.now now image tile after new so_far step
           c.sweep_one.auto.image within c.insert.ensures refl c.loop-self-test.true refl refl refl
-          c.sweep_one.ensures.enough;
+          refl c.sweep_one.ensures.enough;
       somewhere =
           still_somewhere whole above (strip_of now mask image) somewhere c.edges_are_open.ensures tile
           (strip_of after mask new).core after.bounds step;
@@ -73,18 +74,19 @@ returns-in_default c =
     swept_to_the_end c.args.whole.now c.args.above c.args.mask.now c.args.self.now c.args.image.now c.loop-self.self
     c.loop-self.image c.inner_tiles-first.result.0 c.inner_tiles-first.result.1 c.loop-self.invariant.swept
     c.loop-self.invariant.somewhere c.inner_tiles-first.ensures.inner
-    (λ more t from before can. c.in_default.ensures t from can)
+    (λ more few t from before can. c.in_default.ensures t from can)
 
 pub returns-then-tile-end : goal.returns-then-tile-end
 returns-then-tile-end c =
     swept_to_the_end c.args.whole.now c.args.above c.args.mask.now c.args.self.now c.args.image.now c.loop-self.self
     c.loop-self.image c.inner_tiles-first.result.0 c.inner_tiles-first.result.1 c.loop-self.invariant.swept
     c.loop-self.invariant.somewhere c.inner_tiles-first.ensures.inner
-    (λ more t from before can. absurd (omega (arith, before, c.if-tile-end.true, c.in-Some.ensures.1 t (from, can))))
+    (λ more few t from before can.
+    absurd (omega (arith, before, c.if-tile-end.true, c.in-Some.ensures.1 t (from, can))))
 
 pub returns : goal.returns
 returns c =
     swept_to_the_end c.args.whole.now c.args.above c.args.mask.now c.args.self.now c.args.image.now c.loop-self.self
     c.loop-self.image c.inner_tiles-first.result.0 c.inner_tiles-first.result.1 c.loop-self.invariant.swept
     c.loop-self.invariant.somewhere c.inner_tiles-first.ensures.inner
-    (λ more t from before can. absurd (omega (arith, more, c.loop-self-test.false)))
+    (λ more few t from before can. absurd (omega (arith, more, c.loop-self-test.false)))
