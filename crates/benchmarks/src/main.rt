@@ -55,44 +55,47 @@ fn main(rt: HostRuntime) -> Outcome {
     measure(&rt, &mut StdSource::new(rt.stdin()), &words)
 }
 
+// No words of the list above.
+const OTHER_WORDS: Fault = Fault(
+    "the words are none of: edit, bands, settle, studio, watch, board, flood, stress and numbers",
+);
+
 // Measures what the words say.
 fn measure(rt: &impl System, source: &mut impl Source, words: &[String]) -> Outcome {
     let word = words.get(1).map(|word| word.as_str()).unwrap_or("");
     match (word, number_at(words, 2), number_at(words, 3)) {
-        ("edit", Some(count), Some(side)) => {
-            settling::each(rt, read(rt, source)?, side, count, number_at(words, 4))
-        }
-        ("bands", Some(threads), Some(side)) => {
-            settling::in_bands(rt, read(rt, source)?, side, threads)
-        }
-        ("settle", Some(0), Some(side)) => settling::once(rt, read(rt, source)?, side),
-        ("settle", Some(hands), Some(side)) => {
-            studios::run(rt, read(rt, source)?, hands, side, Task::Settle, None)
-        }
-        ("studio", Some(hands), Some(side)) => {
-            let task = number_at(words, 4).map_or(Task::Settle, Task::Edit);
-            let threads = hands as usize + 1;
-            studios::run(rt, read(rt, source)?, hands, side, task, Some(threads))
-        }
-        ("settle", None, Some(side)) => parts::measure(rt, read(rt, source)?, side),
-        ("watch", Some(count), None) => {
-            studios::run(rt, read(rt, source)?, 2, SIDE, Task::See(count), None)
-        }
-        ("board", Some(hands), None) => boards::measure(rt, read(rt, source)?, hands, false),
-        ("flood", Some(hands), Some(4)) => boards::measure(rt, read(rt, source)?, hands, true),
-        ("flood", Some(hands), Some(8)) => flood_aslant(rt, read(rt, source)?, hands),
         ("stress", Some(rounds), Some(seed)) => stress::play_all(rt, rounds, seed),
-        _ => Err(Fault(
-            "the words are none of: edit, bands, settle, studio, watch, board, flood, stress and numbers",
-        )),
+        ("edit" | "bands" | "settle" | "studio" | "watch" | "board" | "flood", _, _) => {
+            measure_on(rt, read(rt, source)?, word, words)
+        }
+        _ => Err(OTHER_WORDS),
     }
 }
 
-// Floods a board of which pixels that share only a corner are neighbours.
-fn flood_aslant(rt: &impl System, input: Input, hands: u32) -> Outcome {
-    let mut input = input;
-    input.conn = Conn::Eight;
-    boards::measure(rt, input, hands, true)
+// Measures what the words say on an input.
+fn measure_on(rt: &impl System, mut input: Input, word: &str, words: &[String]) -> Outcome {
+    let third = number_at(words, 4);
+    match (word, number_at(words, 2), number_at(words, 3)) {
+        ("edit", Some(count), Some(side)) => settling::each(rt, input, side, count, third),
+        ("bands", Some(threads), Some(side)) => settling::in_bands(rt, input, side, threads),
+        ("settle", Some(0), Some(side)) => settling::once(rt, input, side),
+        ("settle", Some(hands), Some(side)) => {
+            studios::run(rt, input, hands, side, Task::Settle, None)
+        }
+        ("studio", Some(hands), Some(side)) => {
+            let task = third.map_or(Task::Settle, Task::Edit);
+            studios::run(rt, input, hands, side, task, Some(hands as usize + 1))
+        }
+        ("settle", None, Some(side)) => parts::measure(rt, input, side),
+        ("watch", Some(count), None) => { studios::run(rt, input, 2, SIDE, Task::See(count), None) }
+        ("board", Some(hands), None) => boards::measure(rt, input, hands, false),
+        ("flood", Some(hands), Some(4)) => boards::measure(rt, input, hands, true),
+        ("flood", Some(hands), Some(8)) => {
+            input.conn = Conn::Eight;
+            boards::measure(rt, input, hands, true)
+        }
+        _ => OTHER_WORDS.dropping(input),
+    }
 }
 
 // The number at this place.

@@ -4,6 +4,7 @@ use crate::input::Input;
 use crate::outcome::{Fault, MEMORY, Outcome, check, sum_of};
 use crate::system::{Laps, System};
 use steal_pool::{Open, Pool, Report};
+use tile_generations::Job;
 use tiled_core::TiledCore;
 
 // A pool of one hand; and how many jobs there were, and what taking, pushing, sweeping, giving back and handing hints
@@ -32,7 +33,10 @@ fn measure_over(rt: &impl System, mut core: TiledCore) -> Outcome {
 
 // The sum of the core's image, which is the end of it.
 fn sum_at_end(core: TiledCore) -> u64 {
-    sum_of(core.into_core().image().cells())
+    let core = core.into_core();
+    let sum = sum_of(core.image().cells());
+    drop(core);
+    sum
 }
 
 // Works all off, and prints how many jobs there were, and the time of each part.
@@ -68,9 +72,7 @@ fn work_off(rt: &impl System, core: &mut TiledCore, bench: &mut Bench) -> Outcom
 fn work(rt: &impl System, core: &mut TiledCore, bench: &mut Bench, tile: usize) -> Outcome {
     let (pool, sums) = bench;
     let mut laps = Laps::begin(rt);
-    let Some(job) = core.take(rt.alloc(), tile).or(Err(MEMORY))? else {
-        return Err(Fault("a tile has no job"));
-    };
+    let job = take(rt, core, tile)?;
     sums[1] = sums[1].wrapping_add(laps.lap(rt));
     let is_pushed = pool.owner.push(job).is_ok();
     sums[2] = sums[2].wrapping_add(laps.lap(rt));
@@ -78,15 +80,26 @@ fn work(rt: &impl System, core: &mut TiledCore, bench: &mut Bench, tile: usize) 
         hand.turn(&Open);
     }
     sums[3] = sums[3].wrapping_add(laps.lap(rt));
-    let is_back = match pool.owner.collect(0) {
-        Some(Report::Done(swept)) => core.give_back(rt.alloc(), swept).is_ok(),
-        _ => false,
-    };
+    let is_back = give_back(rt, core, pool);
     sums[4] = sums[4].wrapping_add(laps.lap(rt));
     hand_all(core);
     sums[5] = sums[5].wrapping_add(laps.lap(rt));
     sums[0] = sums[0].wrapping_add(1);
     check(is_pushed && is_back, MEMORY.0)
+}
+
+// Takes the job of a tile.
+fn take(rt: &impl System, core: &mut TiledCore, tile: usize) -> Result<Job, Fault> {
+    let job = core.take(rt.alloc(), tile).or(Err(MEMORY))?;
+    job.ok_or(Fault("a tile has no job"))
+}
+
+// Collects what the hand swept, and says whether it is in the core again.
+fn give_back(rt: &impl System, core: &mut TiledCore, pool: &mut Pool) -> bool {
+    match pool.owner.collect(0) {
+        Some(Report::Done(swept)) => core.give_back(rt.alloc(), swept).is_ok(),
+        _ => false,
+    }
 }
 
 // Hands over each hint that waits, tile by tile, the last of an inbox first.

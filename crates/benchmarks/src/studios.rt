@@ -45,10 +45,16 @@ pub fn spawn_hands<'s, E: 's, R: System>(
     done: &'s AtomicBool,
 ) -> Outcome {
     let mut are_made = true;
-    for mut hand in hands {
-        are_made = scope.spawn(move || hand.run(rt, &Open, done)).is_ok() && are_made;
+    for hand in hands {
+        are_made = scope.spawn(move || work(rt, hand, done)).is_ok() && are_made;
     }
     check(are_made, "a thread can not be made")
+}
+
+// Lets a hand work until the flag is set.
+fn work(rt: &impl System, mut hand: Hand, done: &AtomicBool) {
+    hand.run(rt, &Open, done);
+    drop(hand);
 }
 
 /// Makes a turn, and lets other threads run where there was nothing to do.

@@ -5,7 +5,7 @@ use grid_core::{Conn, Grid, Pixel, TILE_SIDE};
 use reset_core::Core;
 use std::sync::Wait;
 use std::sync::atomic::{AtomicBool, Ordering};
-use std::thread::{Threads, scope, scope_env};
+use std::thread::{Scope, Threads, scope, scope_env};
 use steal_pool::{Hand, Open};
 use stroke_core::{Stroke, Tag};
 use stroke_lattice::State;
@@ -19,11 +19,27 @@ fn studio_on_row<R: Wait + AllocGlobal>(rt: &R) -> Option<Studio> {
     Studio::open(rt, rt.alloc(), core, 1, 1, 1).ok()
 }
 
+// Lets a hand work until the flag is set.
+fn work<R: Wait>(rt: &R, mut hand: Hand, done: &AtomicBool) {
+    hand.run(rt, &Open, done);
+    drop(hand);
+}
+
+// Lets it do so in a thread of its own, and says whether there is one.
+fn spawn<'s, E, R: Wait + Sync>(
+    scope: &Scope<'s, E>,
+    rt: &'s R,
+    hand: Hand,
+    done: &'s AtomicBool,
+) -> bool {
+    scope.spawn(move || work(rt, hand, done)).is_ok()
+}
+
 // Makes turns until no work is left, with the hand in a thread of its own.
-fn grow<R: Threads + Wait + Sync>(rt: &R, keeper: &mut Keeper, mut hand: Hand) {
+fn grow<R: Threads + Wait + Sync>(rt: &R, keeper: &mut Keeper, hand: Hand) {
     let done = &AtomicBool::new(false);
     scope(scope_env(), rt, |scope| {
-        let is_at_work = scope.spawn(move || hand.run(rt, &Open, done)).is_ok();
+        let is_at_work = spawn(scope, rt, hand, done);
         for _ in rt.forever() {
             keeper.turn();
             if !is_at_work || keeper.core().is_quiet() {
@@ -51,10 +67,13 @@ fn main(rt: HostRuntime) {
         draw(&rt, &mut studio);
         let Studio {
             keeper,
-            pens: _pens,
-            hands: _hands,
-            eyes: _eyes,
+            pens,
+            hands,
+            eyes,
         } = studio;
-        keeper.end(&rt);
+        drop(pens);
+        drop(hands);
+        drop(eyes);
+        drop(keeper.end(&rt));
     }
 }

@@ -159,11 +159,15 @@ fn works<'s, E, R: Wait + Sync>(
     found: &'s Found,
 ) -> bool {
     match hand {
-        Some(mut hand) => scope
-            .spawn(move || hand.run(rt, &Open, &found.done))
-            .is_ok(),
+        Some(hand) => scope.spawn(move || sweep(rt, hand, found)).is_ok(),
         None => false,
     }
+}
+
+// Sweeps until the keeper has ended its work.
+fn sweep<R: Wait>(rt: &R, mut hand: Hand, found: &Found) {
+    hand.run(rt, &Open, &found.done);
+    drop(hand);
 }
 
 // Makes turns until each edit is taken and no work is left, for a while; settles in bands and shows the core now and

@@ -20,9 +20,7 @@ fn start<'s, E>(scope: &Scope<'s, E>, hands: &mut Vec<Hand>, count: u8, gate: &'
     let mut are_begun = true;
     for _ in 0..count {
         are_begun = match hands.pop() {
-            Some(mut hand) => {
-                scope.spawn(move || sweeps_one(&mut hand, gate)).is_ok() & are_begun
-            }
+            Some(hand) => scope.spawn(move || sweeps_one(hand, gate)).is_ok() & are_begun,
             None => false,
         };
     }
@@ -30,13 +28,14 @@ fn start<'s, E>(scope: &Scope<'s, E>, hands: &mut Vec<Hand>, count: u8, gate: &'
 }
 
 // Makes turns until a job is got: where two hands steal in the same moment, one gets nothing.
-fn sweeps_one(hand: &mut Hand, gate: &Barrier) {
+fn sweeps_one(mut hand: Hand, gate: &Barrier) {
     for _ in 0..PATIENCE {
         if hand.turn(gate) != Turn::Idle {
-            return;
+            break;
         }
         thread::yield_now();
     }
+    drop(hand);
 }
 
 // What comes to pass while a job is held and once it is let go, and the image at the end.

@@ -1,7 +1,7 @@
 //! Tiles that wait for those beside them, in one thread.
 
 use crate::pictures::{Edit, Mask};
-use core_dispatch::{Books, Dispatcher};
+use core_dispatch::{Books, Dispatcher, OpenedBooks};
 use grid_core::Conn;
 use reset_core::Core;
 use std::alloc::Global;
@@ -11,20 +11,33 @@ use tiled_core::TiledCore;
 
 // A core of a row of tiles that are all dirty.
 fn core_of_many_tiles(alloc: Global) -> Option<Core> {
-    let spread = Edit::Spread.delta(alloc)?;
     let mut core = Mask::ManyTiles.core(alloc, Conn::Four)?;
-    match core.merge(alloc, &spread) {
-        Ok(_) => Some(core),
-        Err(_) => None,
+    if spreads(alloc, &mut core) {
+        return Some(core);
+    }
+    drop(core);
+    None
+}
+
+// Whether a stroke over all tiles is merged.
+fn spreads(alloc: Global, core: &mut Core) -> bool {
+    match Edit::Spread.delta(alloc) {
+        Some(spread) => core.merge(alloc, &spread).is_ok(),
+        None => false,
     }
 }
 
 // Books over it, without their pen.
 fn books_on_many_tiles(alloc: Global) -> Option<Books> {
-    let core = core_of_many_tiles(alloc)?;
-    match Books::open(alloc, core, 1) {
-        Ok(opened) => Some(opened.books),
-        Err(_) => None,
+    match Books::open(alloc, core_of_many_tiles(alloc)?, 1) {
+        Ok(OpenedBooks { books, pens }) => {
+            drop(pens);
+            Some(books)
+        }
+        Err(refused) => {
+            drop(refused);
+            None
+        }
     }
 }
 

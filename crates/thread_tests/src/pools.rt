@@ -110,19 +110,27 @@ fn comes_back(alloc: Global, owner: &mut Owner) -> Outcome {
     right_if(are_silent, "a report too many")
 }
 
+// Sweeps until the flag is set.
+fn sweep<R: Wait>(rt: &R, mut hand: Hand, gate: &Watch, done: &AtomicBool) {
+    hand.run(rt, gate, done);
+    drop(hand);
+}
+
 // The same while the second of three hands runs in a thread of its own.
 fn comes_from_thread<R: Threads + Wait + Sync>(
     rt: &R,
     alloc: Global,
     owner: &mut Owner,
-    mut hand: Hand,
+    hand: Hand,
 ) -> Outcome {
     let (watch, done) = (Watch::default(), AtomicBool::new(false));
     let (gate, flag) = (&watch, &done);
     let outcome = thread::scope(thread::scope_env(), rt, |scope| {
-        let outcome = match scope.spawn(move || hand.run(rt, gate, flag)) {
-            Ok(_) => comes_back(alloc, owner),
-            Err(_) => Err(NO_MEMORY),
+        let is_made = scope.spawn(move || sweep(rt, hand, gate, flag)).is_ok();
+        let outcome = if is_made {
+            comes_back(alloc, owner)
+        } else {
+            Err(NO_MEMORY)
         };
         flag.store(true, Ordering::SeqCst);
         outcome
