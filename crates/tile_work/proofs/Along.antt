@@ -20,7 +20,7 @@ use Rattle.border_queues.specs.{TileWork.TileWork, TileWork.hints_at, TileWork.i
 use Rattle.border_queues.specs.TileWork.{work_of}
 use Rattle.tile_generations.specs.Generations.{max_generation}
 use Rattle.tile_work.specs.declared.work_table.{along.Beyond.Beyond, row.TileRow.TileRow}
-use Rattle.tile_work.specs.Along.{CanTell, HasRoomBeyond, HaveOtherInboxes, IsTelling}
+use Rattle.tile_work.specs.Along.{CanTell, HasRoomBeyond, HaveGrown, HaveOtherInboxes, IsTelling}
 use Rattle.tile_work.specs.Along.{IsTold, LeadsTo, TellApart}
 use Rattle.tile_work.specs.WorkTable.{AreReceived, AreInStep, as_work, works_of}
 use Rattle.tile_work.specs.WorkTable.{is_some_hint, waiting_bits}
@@ -281,6 +281,20 @@ module _ (rows : List TileRow) (t : ℕ) (row new : TileRow) (within : t < lengt
         (λ u other. along_elsewhere s inner outer u beyond.count
         (λ i place is_u. other (sym is_u ∙ there i place)));
   }
+
+-- there is still room where no row lost any
+pub room_grown : {beyond : Beyond} {old new : List TileRow} → HaveGrown old new → HasRoomBeyond old beyond
+    → HasRoomBeyond new beyond
+room_grown {beyond} grown room = record {
+  hints = λ some.
+      let had = room.hints some in
+      let more = grown.hints beyond.tile in
+      omega (arith, had, more);
+  runs = λ some.
+      let had = room.runs some in
+      let more = grown.runs beyond.tile in
+      omega (arith, had, more);
+}
 
 -- there is still room beyond a side that does not tell the same tile
 pub room_stays : {from generation : ℕ} {side : Side} {one other : Beyond} {old new : List TileRow} {waits : List Bool}

@@ -16,7 +16,8 @@ use Rattle.border_queues.proofs.SideTiles.{along_right, above_other, below_other
 use Rattle.border_queues.proofs.SideTiles.{above_not_below, above_not_left, above_not_right, below_not_right}
 use Rattle.border_queues.proofs.SideTiles.{left_not_below, left_not_right}
 use Rattle.tile_work.specs.declared.work_table.{along.BeyondSides.BeyondSides}
-use Rattle.tile_work.specs.Along.{AreApart, AreBeyond, AreTelling, CanAllTell, SidePairs, hints_beyond}
+use Rattle.tile_work.specs.Along.{AreApart, AreBeyond, AreTelling, AreWithin, CanAllTell, SidePairs}
+use Rattle.tile_work.specs.Along.{hints_beyond}
 use Rattle.tile_work.specs.WorkTable.{AreReceived}
 use Rattle.tile_work.proofs.Along.{can_tell, is_telling, told_elsewhere, told_there}
 
@@ -65,6 +66,16 @@ only_fourth a b c d a_is b_is c_is =
 is_there : (goes_on : Bool) (t u : ℕ) → (IsTrue goes_on × (t ≡ u)) ⊎ (IsTrue goes_on → t ≡ u → ⊥)
 is_there true t u = elim (cases_eq t u) [ inl same ↦ inl (refl, same) | inr other ↦ inr (λ goes_on same. other same) ]
 is_there false t u = inr (λ goes_on same. absurd cc)
+
+-- the tiles beyond the sides are of the tiling
+pub all_within : {tiles : Tiles} {rect : Rect} {sides : Sides} {beyond : BeyondSides}
+    → AreBeyond tiles rect sides beyond → AreWithin (count_of tiles) beyond
+all_within leads = record {
+  above = leads.above.within;
+  left = leads.left.within;
+  right = leads.right.within;
+  below = leads.below.within;
+}
 
 module _ (tiles : Tiles) (from : ℕ) (sides : Sides) (beyond : BeyondSides) (tiled : IsTiled tiles)
     (within : from < count_of tiles) (leads : AreBeyond tiles (rect_of tiles from) sides beyond) where

@@ -1,10 +1,10 @@
 -- Hints that are counted, by the places of their tiles among those at and around one.
-use Rattle.std.proofs.Common.{◌≡◌, ℕ, ◌+◌, ◌<◌, ◌≤◌, Bool, true, cond, List, [], ◌∷◌, length, get_or, set, take}
-use Rattle.std.proofs.Common.{length-take, refl, sym, ◌∙◌, ap, subst, arith, inl, inr, ◌⊎◌, ◌==◌, All}
+use Rattle.std.proofs.Common.{◌≡◌, ℕ, ◌+◌, ◌<◌, ◌≤◌, Bool, true, cond, List, [], ◌∷◌, length, get_or, replicate}
+use Rattle.std.proofs.Common.{set, take, length-take, refl, sym, ◌∙◌, ap, subst, arith, inl, inr, ◌⊎◌, ◌==◌, All}
 use Rattle.std.proofs.Common.{slice_index, filter}
 use Rattle.std.proofs.lemmas.Bool.{cases_eq, cases_lt, eq-eqb, ne_eqb, eqb-true}
-use Rattle.std.proofs.lemmas.List.{get_or-set_same, get_or-set_other, length-set, take_all}
-use Rattle.std.proofs.lemmas.List.Elements.{All-head, All-tail, All-filter, All-set, filter_passes}
+use Rattle.std.proofs.lemmas.List.{get_or-replicate, get_or-set_same, get_or-set_other, length-set, take_all}
+use Rattle.std.proofs.lemmas.List.Elements.{All-head, All-tail, All-filter, All-replicate, All-set, filter_passes}
 use Rattle.std.proofs.lemmas.List.Filters.{length-filter_more}
 use Rattle.std.proofs.lemmas.List.Sums.{length-filter, count_by-le-length}
 use Rattle.grid_core.specs.Tiles.{Tiles, count_of, tile_of}
@@ -31,6 +31,19 @@ pub record IsCounting (tiles : Tiles) (tile : ℕ) (hints : List Hint) (i : ℕ)
   pub counted : (k : ℕ) → k < 9
       → slice_index counts k ≡ length (filter (is_to_place tiles tile k) (take i hints))
   pub known : (k : ℕ) → k < 9 → 0 < slice_index counts k → slice_index ts k ≡ tile_among tiles tile k
+
+-- at first none is
+pub none_counted : (tiles : Tiles) (tile : ℕ) (hints : List Hint) → tile < count_of tiles
+    → IsCounting tiles tile hints 0 (replicate 9 tile) (replicate 9 0)
+none_counted tiles tile hints within = record {
+  places = refl;
+  count_places = refl;
+  within = All-replicate (λ t. t < count_of tiles) 9 tile within;
+  counted = λ k in_places. get_or-replicate {A = ℕ} 9 k 0 0 in_places;
+  known = λ k in_places some.
+      let none = get_or-replicate {A = ℕ} 9 k 0 0 in_places in
+      absurd (omega (arith, none, some));
+}
 
 module _ {tiles : Tiles} {tile : ℕ} {hints : List Hint} {i : ℕ} {ts counts : List ℕ}
     (so_far : IsCounting tiles tile hints i ts counts) where

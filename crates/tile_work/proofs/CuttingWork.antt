@@ -4,6 +4,7 @@ use Rattle.std.proofs.Common.{slice_range, get_or, set, take, drop, replicate, r
 use Rattle.std.proofs.Common.{None, is_some}
 use Rattle.std.proofs.lemmas.List.{length-map, length-take, get_or-map, map_more, map_push, set_at, append_assoc}
 use Rattle.std.proofs.lemmas.List.{take_more, take-map, drop-map, ext_get_or, length-replicate, get_or-replicate}
+use Rattle.std.proofs.lemmas.List.{append-nil, length-append, take_all}
 use Rattle.border_queues.specs.TileWork.{TileWork, idle, work_of}
 use Rattle.tile_generations.specs.Generations.{max_generation}
 use Rattle.tile_work.specs.{declared.work_table.row.TileRow.TileRow}
@@ -60,6 +61,10 @@ module _ (rows : List TileRow) (i : ℕ) (row : TileRow) (here : i < length rows
         ∙ ap (λ (b : List Bool). b ++ left)
         (sym (map_push (λ work. work.dirty) (works_of (take i rows)) (as_work row)) ∙ ap dirty_bits (sym one_more_row))
 
+    -- it is over as many tiles as there are rows
+    pub bits_count : length bits ≡ length rows
+    bits_count = ap length so_far ∙ simp (length-append, length-map, length-take, length-replicate) (omega arith)
+
     pub one_more_dirty : row.dirty ≡ true
         → set bits i true ≡ dirty_bits (works_of (take (i + 1) rows)) ++ replicate (length rows - (i + 1)) false
     one_more_dirty dirty =
@@ -72,6 +77,16 @@ module _ (rows : List TileRow) (i : ℕ) (row : TileRow) (here : i < length rows
         → bits ≡ dirty_bits (works_of (take (i + 1) rows)) ++ replicate (length rows - (i + 1)) false
     one_more_clean clean =
         first_left ∙ ap (λ b. dirty_bits (works_of (take i rows)) ++ b ∷ left) (sym clean) ∙ one_more_bit
+
+-- so it is the set of all rows behind the last one
+pub all_marked : (rows : List TileRow) (i : ℕ) (bits : List Bool) → length rows ≤ i
+    → bits ≡ dirty_bits (works_of (take i rows)) ++ replicate (length rows - i) false
+    → bits ≡ dirty_bits (works_of rows)
+all_marked rows i bits past so_far =
+    let none_left : length rows - i ≡ 0 = omega (arith, past) in
+    so_far ∙ ap (λ n. dirty_bits (works_of (take i rows)) ++ replicate n false) none_left
+    ∙ append-nil (dirty_bits (works_of (take i rows)))
+    ∙ ap (λ (rs : List TileRow). dirty_bits (works_of rs)) (take_all i rows past)
 
 -- ---- the table that is cut out
 

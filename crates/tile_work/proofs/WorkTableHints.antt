@@ -81,6 +81,14 @@ module _ (rows : List TileRow) (t : ℕ) (row new : TileRow) (within : t < lengt
 -- ---- one hint is put into the inbox of its row
 
 -- a set that has the tile is as if it were put in
+-- the set of the tiles where hints wait has each row's tile
+pub in_waiting_bits : (waiting : List Bool) (rows : List TileRow) (t : ℕ) → waiting ≡ waiting_bits (works_of rows)
+    → t < length rows → t < length waiting
+in_waiting_bits waiting rows t same within =
+    let long : length waiting ≡ length rows =
+    ap length same ∙ length-map (works_of rows) (λ work. is_some_hint work.inbox) ∙ length-map rows as_work in
+    omega (arith, long, within)
+
 pub still_waiting : (waiting : List Bool) (t : ℕ) → get_or waiting t false ≡ true → waiting ≡ set waiting t true
 still_waiting waiting t there = sym (ap (set waiting t) (sym there) ∙ set-get_or waiting t false)
 

@@ -116,6 +116,25 @@ module _ {table : Inside} {now : List TileWork} {t : ℕ} {row : TileRow} (at : 
       subst (λ (works : List TileWork). AreInStep works dirty out waiting)
       (sym (map-set as_work table.rows.items t new)) changed
 
+-- the sets have each tile of the table
+in_bits : (says : TileWork → Bool) (bits : List Bool) (works now : List TileWork) (t : ℕ) → bits ≡ map says works
+    → works ≡ now → t < length now → t < length bits
+in_bits says bits works now t same view_is within =
+    let long : length bits ≡ length now = ap length same ∙ length-map works says ∙ ap length view_is in
+    omega (arith, long, within)
+
+pub in_dirty : {works now : List TileWork} {dirty out waiting : List Bool} {t : ℕ}
+    → AreInStep works dirty out waiting → works ≡ now → t < length now → t < length dirty
+in_dirty step = in_bits (λ work. work.dirty) _ _ _ _ step.dirty_in_step
+
+pub in_out : {works now : List TileWork} {dirty out waiting : List Bool} {t : ℕ}
+    → AreInStep works dirty out waiting → works ≡ now → t < length now → t < length out
+in_out step = in_bits (λ work. is_some work.out) _ _ _ _ step.out_in_step
+
+pub in_waiting : {works now : List TileWork} {dirty out waiting : List Bool} {t : ℕ}
+    → AreInStep works dirty out waiting → works ≡ now → t < length now → t < length waiting
+in_waiting step = in_bits (λ work. is_some_hint work.inbox) _ _ _ _ step.waiting_in_step
+
 -- a row of which only the inbox changes
 pub row_with_inbox : (row new : TileRow) (hints : List Hint) → new ≡ record row { inbox = new.inbox }
     → new.inbox.hints ≡ hints → as_work new ≡ record (as_work row) { inbox = hints }

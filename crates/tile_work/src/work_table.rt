@@ -59,11 +59,14 @@ impl WorkTable {
         requires { first ≤ max_generation }
         ensures { IfOk result (λ table. table ≡ replicate count (fresh first)) }
     {
+        let rows = rows_from(alloc, count, first)?;
+        let dirty = TileSet::empty(alloc, count)?;
+        let (out, waiting) = empty_sets(alloc, count)?;
         Ok(WorkTable {
-            rows: rows_from(alloc, count, first)?,
-            dirty: TileSet::empty(alloc, count)?,
-            out: TileSet::empty(alloc, count)?,
-            waiting: TileSet::empty(alloc, count)?,
+            rows,
+            dirty,
+            out,
+            waiting,
             told: Inbox::new(alloc),
         })
     }
@@ -307,4 +310,15 @@ impl WorkTable {
         deliver(&mut self.rows, &mut self.waiting, &beside, hints);
         Ok(())
     }
+}
+
+// Two empty sets, each over so many tiles.
+//
+// Errors: out of memory.
+fn empty_sets(alloc: Global, count: usize) -> Result<(TileSet, TileSet), Memory>
+    ensures { IfOk result (λ sets. (sets.0 ≡ replicate count false) × (sets.1 ≡ replicate count false)) }
+{
+    let first = TileSet::empty(alloc, count)?;
+    let second = TileSet::empty(alloc, count)?;
+    Ok((first, second))
 }

@@ -146,8 +146,7 @@ fn make_room_beyond(rows: &mut [TileRow], beyond: &BeyondSides) -> Result<(), Me
     make_room_at(rows, beyond.above)?;
     make_room_at(rows, beyond.left)?;
     make_room_at(rows, beyond.right)?;
-    make_room_at(rows, beyond.below)?;
-    Ok(())
+    make_room_at(rows, beyond.below)
 }
 
 // Makes room for the hints of one side at the tile beyond it.

@@ -4,8 +4,8 @@ ghost use Rattle.std.specs.Prelude.{◌≡◌, ◌+◌, ◌≤◌, length, slice
 ghost use Rattle.tile_work.specs.Cutting.{with_part, AreOnlyMarked, HaveGenerationsOf};
 ghost use Rattle.tile_work.specs.WorkTable.{dirty_bits, works_of};
 
-use super::WorkTable;
 use super::row::{TileRow, marked_rows};
+use super::{WorkTable, empty_sets};
 use crate::tile_set::TileSet;
 use border_queues::Inbox;
 use grid_core::Memory;
@@ -23,11 +23,14 @@ impl WorkTable {
         ensures { IfOk result (λ table. table ≡ slice_range self.now first end) }
     {
         let rows = &self.rows[first..end];
+        let copies = marked_rows(alloc, rows)?;
+        let dirty = dirty_tiles(alloc, rows)?;
+        let (out, waiting) = empty_sets(alloc, rows.len())?;
         Ok(WorkTable {
-            rows: marked_rows(alloc, rows)?,
-            dirty: dirty_tiles(alloc, rows)?,
-            out: TileSet::empty(alloc, rows.len())?,
-            waiting: TileSet::empty(alloc, rows.len())?,
+            rows: copies,
+            dirty,
+            out,
+            waiting,
             told: Inbox::new(alloc),
         })
     }

@@ -1,10 +1,16 @@
 -- What the tactics leave open of `mark_hits`.
-use Rattle.std.proofs.Common.{arith}
-use Rattle.std.proofs.{Common.false, Common.sym, Common.◌∙◌, Common.length, lemmas.List.length-replicate}
+use Rattle.std.proofs.{Common.ap, Common.false, Common.sym, Common.◌∙◌, Common.length, lemmas.List.length-replicate}
 use Rattle.grid_core.specs.Tiles.{count_of}
 use Rattle.tile_work.proofs.{TileSets.none_is_replicate, HittingCores.reached_is_hit}
-use Rattle.std.proofs.lemmas.Grind.{common_steps}
 use Rattle.tile_work.proofs.hits.mark_hits.Goals as goal
+
+pub mark_losses-requires : goal.mark_losses-requires
+mark_losses-requires c =
+    let count = ap length c.requires.marks ∙ length-replicate (count_of c.args.tiling.now) false in
+    record {
+      count = count;
+      queue_count = ap length c.requires.queue ∙ length-replicate (count_of c.args.tiling.now) false ∙ sym count;
+    }
 
 pub returns-clause-marks : goal.returns-clause-marks
 returns-clause-marks c =
@@ -18,6 +24,3 @@ returns-clause-queue c =
     (c.spread.ensures.queue_count ∙ c.mark_losses.ensures.grows.queue_count
     ∙ (λ i. length (c.requires.queue i)) ∙ length-replicate (count_of c.args.tiling.now) false)
     c.spread.ensures.none ∙ sym c.requires.queue
-
-pub mark_losses-requires : goal.mark_losses-requires
-mark_losses-requires c = grind (arith, common_steps)

@@ -1,5 +1,5 @@
 -- What the tactics leave open of `first_from`.
-use Rattle.std.proofs.Common.{◌≡◌, ℕ, ◌+◌, ◌*◌, ◌/◌, ◌^◌, ◌<◌, ◌≤◌, subst, sym, arith}
+use Rattle.std.proofs.Common.{◌≡◌, ℕ, ◌+◌, ◌*◌, ◌/◌, ◌^◌, ◌<◌, ◌≤◌, length, subst, sym, ap, arith}
 use Rattle.tile_work.specs.TileSet.{bit_of, IsLowestFrom}
 use Rattle.tile_work.proofs.TileSetWords.{HasNoneFrom-count, IsFirstFrom-here, HasNoneFrom-after, IsFirstFrom-after}
 use Rattle.tile_work.proofs.TileSetWords.{tile_after, word_within}
@@ -19,6 +19,21 @@ index-requires c =
 pub overflow_add-result : goal.overflow_add-result
 overflow_add-result c =
     record { fits = bit_fits c.args.start c.in-Some.bit c.ranges.start.fits c.in-Some.ensures.within }
+
+pub overflow_add-word : goal.overflow_add-word
+overflow_add-word c = omega (arith, c.ranges.start.fits)
+
+pub lowest_place-requires : goal.lowest_place-requires
+lowest_place-requires c =
+    let same = ap length c.deref.ensures.value in
+    omega (arith, same, c.self.invariant.summary_count, c.self.inside.words.small)
+
+pub overflow_mul-result-2 : goal.overflow_mul-result-2
+overflow_mul-result-2 c =
+    let found : IsLowestFrom (bit_of c.self.inside.summary.items) (c.args.start / 64 + 1) c.in_ok-next.next =
+    rw (← c.deref.ensures.value) c.in_ok-next.ensures in
+    let within = word_within _ _ _ c.self.invariant c.in_ok-next.next found.bit in
+    omega (arith, within, c.self.invariant.word_count)
 
 pub index-requires-2 : goal.index-requires-2
 index-requires-2 c =

@@ -1,8 +1,8 @@
 -- What the tactics leave open of `abandon`.
-use Rattle.std.proofs.Common.{true, refl, None, arith}
-use Rattle.tile_work.proofs.WorkTables.{IsRowAt, row_changed, row_bounded, waiting_stays, stays_in_step}
+use Rattle.std.proofs.Common.{true, refl, None}
+use Rattle.tile_work.proofs.WorkTables.{IsRowAt, in_out, in_dirty, row_changed}
+use Rattle.tile_work.proofs.WorkTables.{row_bounded, waiting_stays, stays_in_step}
 use Rattle.tile_work.proofs.work_table.WorkTable.abandon.Goals.{After-remove}
-use Rattle.std.proofs.lemmas.Grind.{common_steps}
 use Rattle.tile_work.proofs.work_table.WorkTable.abandon.Goals as goal
 
 row_at : (c : After-remove) → IsRowAt c.self.inside c.args.self.now c.args.tile c.index_mut-row.result.now
@@ -21,5 +21,8 @@ invariant_of-self c =
 pub returns : goal.returns
 returns c = row_changed (row_at c) (λ w. record w { dirty = true; out = None }) _ refl
 
+pub insert-requires : goal.insert-requires
+insert-requires c = in_dirty c.self.invariant c.self.view_is c.requires
+
 pub remove-requires : goal.remove-requires
-remove-requires c = grind (arith, common_steps)
+remove-requires c = in_out c.self.invariant c.self.view_is c.requires

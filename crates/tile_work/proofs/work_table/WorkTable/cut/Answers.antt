@@ -23,7 +23,7 @@ marked_rows-requires c =
 
 pub returns : goal.returns
 returns c =
-    c.in_ok-marked_rows.ensures
+    c.in_ok-copies.ensures
     ∙ works_of_part c.deref.result.now c.args.self.now c.args.first c.args.end
     (ap works_of c.deref.ensures.value ∙ c.self.view_is)
 
@@ -39,10 +39,10 @@ invariant_of-result c =
     let count : length rows ≡ length works = sym (length-map rows as_work) ∙ ap length same in
     let bounded = subst (λ (ws : List TileWork). (t : ℕ) → t < length ws
     → (work_of ws t).generation ≤ max_generation) c.self.view_is c.self.invariant.bounded in
-    let step : AreInStep works c.in_ok-dirty_tiles.field-0 c.in_ok-empty.field-0 c.in_ok-empty-2.field-0 =
+    let step : AreInStep works c.in_ok-dirty.dirty c.in_ok-out.out c.in_ok-out.waiting =
     marked_in_step works (length rows) count
     (marked_part now first end c.requires.order c.requires.within c.requires.marks)
     (bounded_part now first end c.requires.order c.requires.within bounded) _ _ _
-    (c.in_ok-dirty_tiles.ensures ∙ ap dirty_bits same) c.in_ok-empty.ensures c.in_ok-empty-2.ensures in
-    subst (λ (ws : List TileWork). AreInStep ws c.in_ok-dirty_tiles.field-0 c.in_ok-empty.field-0
-    c.in_ok-empty-2.field-0) (sym (c.in_ok-marked_rows.ensures ∙ same)) step
+    (c.in_ok-dirty.ensures ∙ ap dirty_bits same) c.in_ok-out.ensures.0 c.in_ok-out.ensures.1 in
+    subst (λ (ws : List TileWork). AreInStep ws c.in_ok-dirty.dirty c.in_ok-out.out
+    c.in_ok-out.waiting) (sym (c.in_ok-copies.ensures ∙ same)) step

@@ -1,6 +1,7 @@
 -- What the tactics leave open of `end_job`.
 use Rattle.std.proofs.Common.{refl, None}
-use Rattle.tile_work.proofs.WorkTables.{IsRowAt, row_changed, row_bounded, dirty_stays, waiting_stays, stays_in_step}
+use Rattle.tile_work.proofs.WorkTables.{IsRowAt, in_out, row_changed, row_bounded}
+use Rattle.tile_work.proofs.WorkTables.{dirty_stays, waiting_stays, stays_in_step}
 use Rattle.tile_work.proofs.work_table.WorkTable.end_job.Goals.{After-remove}
 use Rattle.tile_work.proofs.work_table.WorkTable.end_job.Goals as goal
 
@@ -19,3 +20,6 @@ invariant_of-self c =
 
 pub returns : goal.returns
 returns c = row_changed (row_at c) (λ w. record w { out = None }) _ refl
+
+pub remove-requires : goal.remove-requires
+remove-requires c = in_out c.self.invariant c.self.view_is c.requires

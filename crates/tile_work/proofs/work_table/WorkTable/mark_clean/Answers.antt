@@ -1,6 +1,7 @@
 -- What the tactics leave open of `mark_clean`.
 use Rattle.std.proofs.Common.{false, refl}
-use Rattle.tile_work.proofs.WorkTables.{IsRowAt, row_changed, row_bounded, out_stays, waiting_stays, stays_in_step}
+use Rattle.tile_work.proofs.WorkTables.{IsRowAt, in_dirty, row_changed, row_bounded}
+use Rattle.tile_work.proofs.WorkTables.{out_stays, waiting_stays, stays_in_step}
 use Rattle.tile_work.proofs.work_table.WorkTable.mark_clean.Goals.{After-remove}
 use Rattle.tile_work.proofs.work_table.WorkTable.mark_clean.Goals as goal
 
@@ -19,3 +20,6 @@ invariant_of-self c =
 
 pub returns : goal.returns
 returns c = row_changed (row_at c) (λ w. record w { dirty = false }) _ refl
+
+pub remove-requires : goal.remove-requires
+remove-requires c = in_dirty c.self.invariant c.self.view_is c.requires

@@ -1,8 +1,8 @@
 -- What the tactics leave open of `mark_dirty`.
-use Rattle.std.proofs.Common.{true, refl, arith}
-use Rattle.tile_work.proofs.WorkTables.{IsRowAt, row_changed, row_bounded, out_stays, waiting_stays, stays_in_step}
+use Rattle.std.proofs.Common.{true, refl}
+use Rattle.tile_work.proofs.WorkTables.{IsRowAt, in_dirty, row_changed, row_bounded}
+use Rattle.tile_work.proofs.WorkTables.{out_stays, waiting_stays, stays_in_step}
 use Rattle.tile_work.proofs.work_table.WorkTable.mark_dirty.Goals.{After-insert}
-use Rattle.std.proofs.lemmas.Grind.{common_steps}
 use Rattle.tile_work.proofs.work_table.WorkTable.mark_dirty.Goals as goal
 
 row_at : (c : After-insert) → IsRowAt c.self.inside c.args.self.now c.args.tile c.index_mut.result.now
@@ -22,4 +22,4 @@ pub returns : goal.returns
 returns c = row_changed (row_at c) (λ w. record w { dirty = true }) _ refl
 
 pub insert-requires : goal.insert-requires
-insert-requires c = grind (arith, common_steps)
+insert-requires c = in_dirty c.self.invariant c.self.view_is c.requires

@@ -4,5 +4,5 @@ use Rattle.tile_work.proofs.work_table.WorkTable.new.Goals as goal
 
 pub invariant_of-result : goal.invariant_of-result
 invariant_of-result c =
-    fresh_in_step _ c.args.count c.args.first c.in_ok-rows_from.ensures c.requires _ _ _ c.in_ok-empty.ensures
-    c.in_ok-empty-2.ensures c.in_ok-empty-3.ensures
+    fresh_in_step _ c.args.count c.args.first c.in_ok-rows.ensures c.requires _ _ _ c.in_ok-dirty.ensures
+    c.in_ok-out.ensures.0 c.in_ok-out.ensures.1

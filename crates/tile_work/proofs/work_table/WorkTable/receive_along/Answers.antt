@@ -1,11 +1,14 @@
 -- What the tactics leave open of `receive_along`.
 use Rattle.std.proofs.Common.{List, ◌≡◌, ◌++◌, ℕ, length, take, drop, subst, sym, ◌∙◌, ap}
+use Rattle.std.proofs.{lemmas.List.length-map, lemmas.Result.err_from_is_err_and}
 use Rattle.grid_core.specs.declared.conn.Conn.TheVariants.{Four}
+use Rattle.grid_core.specs.Tiles.{count_of}
 use Rattle.border_queues.specs.{OpenEdges.open_edges, OpenEdges.sender_by, TileWork.TileWork}
-use Rattle.tile_work.specs.{declared.work_table.row.TileRow.TileRow, Along.HaveRoomBeyond}
+use Rattle.tile_work.specs.{declared.work_table.row.TileRow.TileRow, Along.AreWithin}
+use Rattle.tile_work.specs.{Along.HaveRoomBeyond, WorkTable.as_work, WorkTable.waiting_bits}
 use Rattle.tile_work.specs.WorkTable.{works_of, AreReceived, AreInStep}
 use Rattle.tile_work.proofs.{Along.inboxes_in_step, WorkTableHints.written_back}
-use Rattle.tile_work.proofs.BeyondSides.{all_apart, all_can_tell, are_telling, pairs_of, received_all}
+use Rattle.tile_work.proofs.BeyondSides.{all_apart, all_can_tell, all_within, are_telling, pairs_of, received_all}
 use Rattle.tile_work.proofs.work_table.WorkTable.receive_along.Goals.{After-deref_mut-2}
 use Rattle.tile_work.proofs.work_table.WorkTable.receive_along.Goals as goal
 
@@ -20,6 +23,27 @@ works_with_room : (c : After-deref_mut-2) → works_of c.deref_mut-2.result.now 
 works_with_room c =
     ap works_of (rows_with_room c) ∙ c.make_room_beyond.ensures.works ∙ ap works_of c.deref_mut.ensures.value
 
+pub make_room_beyond-requires : goal.make_room_beyond-requires
+make_room_beyond-requires c =
+    let count : length c.deref_mut.result.now ≡ count_of c.args.tiling.now =
+    ap length c.deref_mut.ensures.value ∙ sym (length-map c.self.inside.rows.items as_work) ∙ ap length c.self.view_is
+    ∙ c.requires.tiles in
+    subst (λ n. AreWithin n c.beyond_sides-beyond.result) (sym count)
+    (all_within c.beyond_sides-beyond.ensures.beyond)
+
+pub returns-in_err-make_room_beyond-clause-ok : goal.returns-in_err-make_room_beyond-clause-ok
+returns-in_err-make_room_beyond-clause-ok c = λ image mask are_sides.
+    let p = err_from_is_err_and c.from_residual.result c.from_residual.ensures.1 in
+    rw p.1 tt
+
+pub returns-in_err-make_room_beyond-clause-err : goal.returns-in_err-make_room_beyond-clause-err
+returns-in_err-make_room_beyond-clause-err c =
+    let p = err_from_is_err_and c.from_residual.result c.from_residual.ensures.1 in
+    rw p.1
+    (ap works_of (written_back c.make_room_beyond.new.rows _ c.self.inside.rows.len
+    (c.make_room_beyond.auto.rows ∙ c.deref_mut.ensures.len))
+    ∙ c.make_room_beyond.ensures.works ∙ ap works_of c.deref_mut.ensures.value ∙ c.self.view_is)
+
 -- where there was no room, the rows come back with the work that they had
 pub invariant_of-self : goal.invariant_of-self
 invariant_of-self c =
@@ -30,6 +54,15 @@ invariant_of-self c =
     (c.make_room_beyond.auto.rows ∙ c.deref_mut.ensures.len)))
     (subst (λ (ws : List TileWork). AreInStep ws c.self.inside.dirty c.self.inside.out c.self.inside.waiting)
     (sym works) c.self.invariant)
+
+pub deliver_beyond-requires-clause-within : goal.deliver_beyond-requires-clause-within
+deliver_beyond-requires-clause-within c =
+    let here = (goal.at.deliver_beyond-requires-clause-within c).After-deref_mut-2 in
+    let count : length c.deref_mut-2.result.now ≡ count_of c.args.tiling.now =
+    sym (length-map c.deref_mut-2.result.now as_work) ∙ ap length (works_with_room here) ∙ ap length c.self.view_is
+    ∙ c.requires.tiles in
+    subst (λ n. AreWithin n c.beyond_sides-beyond.result) (sym count)
+    (all_within c.beyond_sides-beyond.ensures.beyond)
 
 pub deliver_beyond-requires-clause-sides : goal.deliver_beyond-requires-clause-sides
 deliver_beyond-requires-clause-sides c =
@@ -46,6 +79,11 @@ deliver_beyond-requires-clause-room c =
     let here = (goal.at.deliver_beyond-requires-clause-room c).After-deref_mut-2 in
     subst (λ (rs : List TileRow). HaveRoomBeyond rs c.beyond_sides-beyond.result) (sym (rows_with_room here))
     c.in_ok-make_room_beyond.ensures.room
+
+pub deliver_beyond-requires-clause-waiting : goal.deliver_beyond-requires-clause-waiting
+deliver_beyond-requires-clause-waiting c =
+    let here = (goal.at.deliver_beyond-requires-clause-waiting c).After-deref_mut-2 in
+    c.self.invariant.waiting_in_step ∙ ap waiting_bits (sym (works_with_room here))
 
 pub invariant_of-self-2 : goal.invariant_of-self-2
 invariant_of-self-2 c =

@@ -5,7 +5,8 @@ use Rattle.border_queues.specs.TileWork.{TileWork, work_of}
 use Rattle.tile_work.specs.declared.work_table.row.TileRow.{TileRow}
 use Rattle.tile_work.specs.WorkTable.{AreInStep, works_of, is_some_hint}
 use Rattle.tile_work.proofs.WorkTables.{IsRowAt, row_bounded, row_changed, row_with_inbox, dirty_stays, out_stays}
-use Rattle.tile_work.proofs.WorkTables.{waiting_stays, stays_in_step, is_some_hint_at, there_is_some_hint, work_is}
+use Rattle.tile_work.proofs.WorkTables.{in_waiting, waiting_stays, stays_in_step, is_some_hint_at}
+use Rattle.tile_work.proofs.WorkTables.{there_is_some_hint, work_is}
 use Rattle.tile_work.proofs.work_table.WorkTable.remove_hint.Goals.{After-remove_hint}
 use Rattle.tile_work.proofs.work_table.WorkTable.remove_hint.Goals as goal
 
@@ -40,6 +41,9 @@ hint_removed c =
     row_changed (row_at c) (λ w. record w { inbox = remove w.inbox c.args.place }) _
     (row_with_inbox c.index_mut.result.now c.remove_hint.new.self _ c.remove_hint.ensures.row
     c.remove_hint.ensures.hints)
+
+pub remove-requires : goal.remove-requires
+remove-requires c = in_waiting c.self.invariant c.self.view_is c.requires.tile
 
 -- the hint was there
 had_hint : (c : After-remove_hint) → is_some_hint c.index_mut.result.now.inbox.hints ≡ true

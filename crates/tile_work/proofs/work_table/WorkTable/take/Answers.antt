@@ -1,6 +1,7 @@
 -- What the tactics leave open of `take`.
 use Rattle.std.proofs.Common.{false, refl, Some}
-use Rattle.tile_work.proofs.WorkTables.{IsRowAt, row_changed, row_bounded, waiting_stays, stays_in_step}
+use Rattle.tile_work.proofs.WorkTables.{IsRowAt, in_out, in_dirty, row_changed}
+use Rattle.tile_work.proofs.WorkTables.{row_bounded, waiting_stays, stays_in_step}
 use Rattle.tile_work.proofs.work_table.WorkTable.take.Goals.{After-insert}
 use Rattle.tile_work.proofs.work_table.WorkTable.take.Goals as goal
 
@@ -19,3 +20,9 @@ invariant_of-self c =
 
 pub returns : goal.returns
 returns c = row_changed (row_at c) (λ w. record w { dirty = false; out = Some c.args.serial }) _ refl
+
+pub remove-requires : goal.remove-requires
+remove-requires c = in_dirty c.self.invariant c.self.view_is c.requires
+
+pub insert-requires : goal.insert-requires
+insert-requires c = in_out c.self.invariant c.self.view_is c.requires

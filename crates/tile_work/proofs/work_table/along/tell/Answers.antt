@@ -1,10 +1,41 @@
 -- What the tactics leave open of `tell`.
 use Rattle.std.proofs.Common.{◌≡◌, ◌<◌, Bool, List, get_or, set, refl, sym, ap, ◌∙◌, arith}
-use Rattle.tile_work.specs.{Along.IsTold, WorkTable.is_some_hint}
-use Rattle.tile_work.proofs.{Along.told_now, WorkTableHints.read_again}
+use Rattle.tile_work.specs.{declared.work_table.row.TileRow.TileRow, Along.IsTold, WorkTable.is_some_hint}
+use Rattle.tile_work.proofs.{Along.told_now, WorkTableHints.count_before, WorkTableHints.in_waiting_bits}
+use Rattle.tile_work.proofs.WorkTableHints.{read_again}
 use Rattle.tile_work.proofs.WorkTables.{there_is_some_hint}
 use Rattle.tile_work.proofs.work_table.along.tell.Goals.{After-push_along}
 use Rattle.tile_work.proofs.work_table.along.tell.Goals as goal
+
+pub push_along-requires-clause-hints : goal.push_along-requires-clause-hints
+push_along-requires-clause-hints c =
+    let rows = c.args.rows.now in
+    let tile = c.args.beyond.tile in
+    let row = get_or rows tile c.index-rows-beyond.result in
+    let there = count_before rows tile row row c.requires.within
+    (read_again rows tile c.index-rows-beyond.result c.requires.within) (λ (r : TileRow). r.inbox.room) in
+    let some : 0 < c.args.beyond.count = omega arith in
+    let room = c.requires.room.hints some in
+    omega (arith, there, room)
+
+pub push_along-requires-clause-runs : goal.push_along-requires-clause-runs
+push_along-requires-clause-runs c =
+    let rows = c.args.rows.now in
+    let tile = c.args.beyond.tile in
+    let row = get_or rows tile c.index-rows-beyond.result in
+    let there = count_before rows tile row row c.requires.within
+    (read_again rows tile c.index-rows-beyond.result c.requires.within) (λ (r : TileRow). r.inbox.runs) in
+    let some : 0 < c.args.beyond.count = omega arith in
+    let room = c.requires.room.runs some in
+    omega (arith, there, room)
+
+pub remove-requires : goal.remove-requires
+remove-requires c =
+    in_waiting_bits c.args.waiting.now c.args.rows.now c.args.beyond.tile c.requires.waiting c.requires.within
+
+pub insert-requires : goal.insert-requires
+insert-requires c =
+    in_waiting_bits c.args.waiting.now c.args.rows.now c.args.beyond.tile c.requires.waiting c.requires.within
 
 -- the row has the hints, and the set says whether some wait there
 told : (c : After-push_along) (waits : List Bool)

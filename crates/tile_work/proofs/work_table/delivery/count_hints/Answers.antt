@@ -1,7 +1,17 @@
 -- What the tactics leave open of `count_hints`.
 use Rattle.std.proofs.Common.{◌≡◌, length, arith, subst}
-use Rattle.tile_work.proofs.Coming.{IsCounting, count_at_most, counting_goes_on, all_counted}
+use Rattle.tile_work.proofs.Coming.{IsCounting, is_near, none_counted, count_at_most, counting_goes_on, all_counted}
 use Rattle.tile_work.proofs.work_table.delivery.count_hints.Goals as goal
+
+pub loop-hint-init : goal.loop-hint-init
+loop-hint-init c =
+    none_counted c.args.beside.now.tiling c.args.beside.now.tile c.args.hints.now c.requires.beside.within
+
+pub place_of-place-requires-clause-near : goal.place_of-place-requires-clause-near
+place_of-place-requires-clause-near c = is_near (c.requires.touching c.loop-hint.hint-index _ c.loop-hint-test.true)
+
+pub tile_of-requires-clause-near : goal.tile_of-requires-clause-near
+tile_of-requires-clause-near c = is_near (c.requires.touching c.loop-hint.hint-index _ c.loop-hint-test.true)
 
 pub overflow_add-counts : goal.overflow_add-counts
 overflow_add-counts c =

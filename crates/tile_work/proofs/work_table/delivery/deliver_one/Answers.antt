@@ -1,9 +1,27 @@
 -- What the tactics leave open of `deliver_one`.
-use Rattle.std.proofs.Common.{List, Bool, ◌≡◌, get_or, set, true, sym, ◌∙◌}
+use Rattle.std.proofs.Common.{List, Bool, ◌≡◌, get_or, set, true, sym, ◌∙◌, arith}
 use Rattle.tile_work.specs.WorkTable.{IsDelivered, room_of}
-use Rattle.tile_work.proofs.WorkTableHints.{read_again, count_left, row_received, waiting_received, still_waiting}
+use Rattle.tile_work.proofs.WorkTableHints.{count_before, count_left, in_waiting_bits, read_again, row_received}
+use Rattle.tile_work.proofs.WorkTableHints.{still_waiting, waiting_received}
 use Rattle.tile_work.proofs.work_table.delivery.deliver_one.Goals.{After-push_hint}
 use Rattle.tile_work.proofs.work_table.delivery.deliver_one.Goals as goal
+
+pub push_hint-requires : goal.push_hint-requires
+push_hint-requires c =
+    let rows = c.args.rows.now in
+    let tile = c.args.tile in
+    let row = get_or rows tile c.index-rows-tile.result in
+    let there = count_before rows tile row row c.requires.tile
+    (read_again rows tile c.index-rows-tile.result c.requires.tile) room_of in
+    omega (arith, there, c.requires.room)
+
+pub contains-requires : goal.contains-requires
+contains-requires c =
+    in_waiting_bits c.args.waiting.now c.args.rows.now c.args.tile c.requires.waiting c.requires.tile
+
+pub insert-requires : goal.insert-requires
+insert-requires c =
+    in_waiting_bits c.args.waiting.now c.args.rows.now c.args.tile c.requires.waiting c.requires.tile
 
 -- the hint is in its row, and the set is as if the tile were put in
 delivered : (c : After-push_hint) (waits : List Bool) → waits ≡ set c.args.waiting.now c.args.tile true
