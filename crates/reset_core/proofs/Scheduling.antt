@@ -93,13 +93,6 @@ pub on_err : {T E P : Type 0} (r : Result T E) → P → OnErr r P
 on_err (Ok x) holds = tt
 on_err (Err e) holds = holds
 
-pub on_ok : {T E P : Type 0} (r : Result T E) → P → OnOk r P
-on_ok (Ok x) holds = holds
-on_ok (Err e) holds = tt
-
-pub on_ok_at_err : {T E : Type 0} (P : Type 0) (r : Result T E) (e : E) → r ≡ Err e → OnOk r P
-on_ok_at_err {T} {E} P r e same = subst (λ (s : Result T E). OnOk s P) (sym same) tt
-
 -- and where it hands on what another returned
 
 pub on_ok_map2 : {T E P Q S : Type 0} (r : Result T E) → OnOk r P → OnOk r Q → (P → Q → S) → OnOk r S

@@ -171,10 +171,13 @@ impl Core {
         };
         match Markers::over(alloc, mask, tiling) {
             Ok(markers) => Ok(beginning.with_markers(conn, markers)),
-            Err((mask, _)) => Err(RefusedMask {
-                mask,
-                why: CoreError::Memory,
-            }),
+            Err((mask, _)) => {
+                drop(beginning);
+                Err(RefusedMask {
+                    mask,
+                    why: CoreError::Memory,
+                })
+            }
         }
     }
 
@@ -338,8 +341,18 @@ impl Core {
             markers,
             image,
             state,
+            work,
+            bounds,
+            masks,
+            marks,
+            queue,
             ..
         } = self;
+        drop(work);
+        drop(bounds);
+        drop(masks);
+        drop(marks);
+        drop(queue);
         let (mask, _) = markers.into_grids();
         (mask, image, state)
     }

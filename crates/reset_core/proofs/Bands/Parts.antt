@@ -1,7 +1,7 @@
 -- Bands as they are stored: which of their tiles are inner ones, one sweep more, and all bands together.
 use Rattle.std.proofs.Common.{◌≡◌, ℕ, ◌+◌, ◌-◌, ◌*◌, ◌^◌, ◌<◌, ◌≤◌, ◌⊎◌, ◌↔◌, inl, inr, refl, sym, ap, ◌∙◌, subst}
 use Rattle.std.proofs.Common.{arith, true, List, [], ◌∷◌, ◌++◌, length, take, drop, set, Contains}
-use Rattle.std.proofs.lemmas.List.{length-append, take-append-drop, take_at, drop_at}
+use Rattle.std.proofs.lemmas.List.{length-append, length-take, take-append-drop, take_at, drop_at}
 use Rattle.std.proofs.lemmas.Bool.{cases_lt}
 use Rattle.std.proofs.lemmas.Nat.{div_below, le-div, mul-le}
 use Rattle.grid_core.specs.declared.bounds.Bounds.{Bounds}
@@ -214,6 +214,43 @@ few_rows whole above mask image bands band rest parts all =
     (subst (λ (list : List Band). AreSomewhere whole above (strips_of mask image list)) parts all).0 in
     let few = rows-within (tiling somewhere.whole) above band.tiling somewhere.tiled somewhere.is.tiles in
     omega (arith, few, somewhere.sound.shape.tiled.size.height_within)
+
+-- the first band stands where it is, with its parts of mask and image
+pub first_somewhere : (whole : Tiles) (above : ℕ) (mask image : List ℕ) (bands : List Band) (band : Band)
+    (rest : List Band) (n : ℕ) (mask_here here : List ℕ) → bands ≡ band ∷ rest → n ≡ cells_in band
+    → mask_here ≡ take n mask → here ≡ take n image → AreSomewhere whole above (strips_of mask image bands)
+    → IsSomewhere whole above (strip_of band mask_here here)
+first_somewhere whole above mask image bands band rest n mask_here here parts cells mask_is here_is all =
+    let first = (subst (λ (list : List Band). AreSomewhere whole above (strips_of mask image list)) parts all).0 in
+    subst (λ (p : List ℕ × List ℕ). IsSomewhere whole above (strip_of band p.0 p.1))
+    (λ i. (
+      (ap (λ k. take k mask) (sym cells) ∙ sym mask_is) i,
+      (ap (λ k. take k image) (sym cells) ∙ sym here_is) i,
+    )) first
+
+-- and so do those below it
+pub rest_somewhere : (whole : Tiles) (above : ℕ) (mask image : List ℕ) (bands : List Band) (band : Band)
+    (rest : List Band) (n rows : ℕ) (mask_below below : List ℕ) → bands ≡ band ∷ rest → n ≡ cells_in band
+    → rows ≡ rows_of band.tiling → mask_below ≡ drop n mask → below ≡ drop n image
+    → AreSomewhere whole above (strips_of mask image bands)
+    → AreSomewhere whole (above + rows) (strips_of mask_below below rest)
+rest_somewhere whole above mask image bands band rest n rows mask_below below parts cells rows_are mask_is below_is all =
+    let others = (subst (λ (list : List Band). AreSomewhere whole above (strips_of mask image list)) parts all).1 in
+    subst (λ (p : ℕ × List ℕ × List ℕ). AreSomewhere whole (above + p.0) (strips_of p.1 p.2 rest))
+    (λ i. (
+      sym rows_are i,
+      (ap (λ k. drop k mask) (sym cells) ∙ sym mask_is) i,
+      (ap (λ k. drop k image) (sym cells) ∙ sym below_is) i,
+    )) others
+
+-- the image has the cells of the first band
+pub first_within : (whole : Tiles) (above : ℕ) (mask image : List ℕ) (bands : List Band) (band : Band)
+    (rest : List Band) → bands ≡ band ∷ rest → AreSomewhere whole above (strips_of mask image bands)
+    → cells_in band ≤ length image
+first_within whole above mask image bands band rest parts all =
+    let first = (subst (λ (list : List Band). AreSomewhere whole above (strips_of mask image list)) parts all).0 in
+    let filled : length (take (cells_in band) image) ≡ cells_in band = first.is.fits.filled in
+    omega (arith, filled, length-take (cells_in band) image)
 
 -- the first band and those below it were swept, each in its part of mask and image
 pub swept_parts : (whole : Tiles) (above : ℕ) (mask old : List ℕ) (bands : List Band) (band : Band) (rest : List Band)

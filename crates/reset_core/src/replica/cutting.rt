@@ -1,6 +1,6 @@
 //! Bands cut out of the tables of a core, and put back.
 
-ghost use Rattle.std.specs.Prelude.{◌≡◌, ◌+◌, ◌^◌, ◌<◌, ◌≤◌, length, map, IfOk};
+ghost use Rattle.std.specs.Prelude.{◌≡◌, ◌+◌, ◌^◌, ◌<◌, ◌≤◌, [], length, map, IfOk, OnOk};
 ghost use Rattle.grid_core.specs.Tiles.{rows_of};
 ghost use Rattle.tile_work.specs.Cutting.{in_whole, with_part};
 ghost use Rattle.tile_work.specs.TileSet.{HasGained};
@@ -10,7 +10,7 @@ ghost use Rattle.reset_core.specs.PuttingBack.{AreFit, CanTake, IsFit, IsInBand,
 ghost use Rattle.reset_core.specs.PuttingBack.{bounds_in, jobs_in, works_in};
 
 use super::bands::{Band, columns_of, rows_of};
-use border_queues::{Inbox, room_for_edges};
+use super::in_place::inbox_for;
 use grid_core::{Conn, Memory, Tiling};
 use raster_sweeps::Room;
 use std::alloc::Global;
@@ -36,8 +36,37 @@ pub(super) fn cut_bands(
         AreBandsCut tiling.now conn limit work.now bounds.now 0 bands.items (rows_of tiling.now)) }
     ensures few { IfOk result (λ bands. length bands.items ≤ length cuts.now + 1) }
 {
-    let rows = rows_of(tiling);
     let mut bands = Vec::with_capacity(alloc, cuts.len() + 1)?;
+    match cut_into(
+        &mut bands, alloc, tiling, conn, work, bounds, cuts, limit, least,
+    ) {
+        Ok(()) => Ok(bands),
+        Err(why) => {
+            drop(bands);
+            Err(why)
+        }
+    }
+}
+
+// Cuts the bands out, and puts them into a list that was empty.
+fn cut_into(
+    bands: &mut Vec<Band>,
+    alloc: Global,
+    tiling: &Tiling,
+    conn: Conn,
+    work: &WorkTable,
+    bounds: &OpenBounds,
+    cuts: &[u32],
+    limit: u64,
+    least: u64,
+) -> Result<(), Memory>
+    requires untouched { IsUntouched tiling.now work.now bounds.now }
+    requires empty { bands.old.items ≡ [] }
+    ensures cut { OnOk result (AreBandsCut tiling.now conn limit work.now bounds.now 0 bands.new.items
+        (rows_of tiling.now)) }
+    ensures few { OnOk result (length bands.new.items ≤ length cuts.now + 1) }
+{
+    let rows = rows_of(tiling);
     let mut above = 0;
     for &below in cuts {
         if above < below && below < rows {
@@ -50,10 +79,11 @@ pub(super) fn cut_bands(
     }
     let band = cut_band(alloc, tiling, conn, work, bounds, above, rows, limit, least)?;
     bands.push(band)?;
-    Ok(bands)
+    Ok(())
 }
 
-// Cuts out the band of the rows of tiles from `above` on and before `below`.
+// Cuts out the band of the rows of tiles from `above` on and before `below`. What holds the most is made last, so that
+// little is let go where memory is wanting.
 fn cut_band(
     alloc: Global,
     tiling: &Tiling,
@@ -75,13 +105,10 @@ fn cut_band(
     let band = band_tiling(tiling, above, below);
     let first = above as usize * columns_of(tiling) as usize;
     let end = first + band.count();
-    let room = Room::new(alloc, band.side() * band.side())?;
-    let mut told = Inbox::new(alloc);
-    if told.reserve(room_for_edges(&band)).is_err() {
-        return Err(Memory);
-    }
-    let swept = TileSet::empty(alloc, band.count())?;
     let bounds = bounds.cut(alloc, first, end, top)?;
+    let told = inbox_for(alloc, &band)?;
+    let swept = TileSet::empty(alloc, band.count())?;
+    let room = Room::new(alloc, band.side() * band.side())?;
     let work = work.cut(alloc, first, end)?;
     Ok(Band {
         conn,

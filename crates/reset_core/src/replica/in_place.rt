@@ -1,6 +1,6 @@
 //! The one step of settling: a dirty tile is swept in place, and its hints are handed over at once.
 
-ghost use Rattle.std.specs.Prelude.{◌≡◌, ◌*◌, ◌<◌, ◌≤◌, ◌↔◌, [], ◌∷◌, Contains, length};
+ghost use Rattle.std.specs.Prelude.{◌≡◌, ◌*◌, ◌<◌, ◌≤◌, ◌↔◌, [], ◌∷◌, Contains, length, IfOk};
 ghost use Rattle.std.specs.List.{flat_map};
 ghost use Rattle.grid_core.specs.Raster.{IsBelow, IsFilled, IsInside, index_of};
 ghost use Rattle.grid_core.specs.Rects.{IsInRect};
@@ -20,11 +20,12 @@ ghost use Rattle.tile_work.specs.WorkTable.{IsToInside};
 
 use crate::replica::Core;
 use border_queues::laws::edges_are_open;
-use border_queues::{Hint, Inbox, View, open_edges_in};
+use border_queues::{Hint, Inbox, View, open_edges_in, room_for_edges};
 use grid_core::laws::{each_pixel_in_one_tile, neighbours_lie_in_touching_tiles};
-use grid_core::{Bounds, Conn, Pixel, Rect, Tiling};
+use grid_core::{Bounds, Conn, Memory, Pixel, Rect, Tiling};
 use raster_sweeps::Room;
 use raster_sweeps::steps::{Size, grow_rows_from_bounds};
+use std::alloc::Global;
 use tile_work::{OpenBounds, WorkTable};
 
 impl Core {
@@ -53,6 +54,22 @@ impl Core {
             room,
             told,
         );
+    }
+}
+
+/// An inbox with room for the hints of one tile.
+///
+/// Errors: out of memory.
+pub(crate) fn inbox_for(alloc: Global, tiling: &Tiling) -> Result<Inbox, Memory>
+    ensures { IfOk result (λ told. room_for_edges tiling.now ≤ places told) }
+{
+    let mut told = Inbox::new(alloc);
+    match told.reserve(room_for_edges(tiling)) {
+        Ok(()) => Ok(told),
+        Err(_) => {
+            drop(told);
+            Err(Memory)
+        }
     }
 }
 

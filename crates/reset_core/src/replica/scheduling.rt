@@ -198,7 +198,10 @@ impl Core {
         let copy = swept.copy(alloc)?;
         match self.give_back(alloc, copy) {
             Ok(_back) => Ok(()),
-            Err((_, why)) => Err(why),
+            Err((copy, why)) => {
+                drop(copy);
+                Err(why)
+            }
         }
     }
 

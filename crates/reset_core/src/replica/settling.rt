@@ -12,7 +12,8 @@ ghost use Rattle.reset_core.specs.Settling.{AreHanded, IsFirstAbandoned, IsFirst
 ghost use Rattle.reset_core.specs.Settling.{AreWorkedOffWithin};
 
 use super::Core;
-use border_queues::{Inbox, room_for_edges};
+use super::in_place::inbox_for;
+use border_queues::Inbox;
 use core_rules::laws::{
     one_job_out_a_tile, settling_changes_few_tiles, settling_is_within_work,
     settling_so_far_is_within_work,
@@ -207,10 +208,12 @@ impl Core {
             return Ok(0);
         };
         let tiling = self.tiling();
+        let mut told = inbox_for(alloc, &tiling)?;
         let mut room = Room::new(alloc, tiling.side() * tiling.side())?;
-        let mut told = Inbox::new(alloc);
-        told.reserve(room_for_edges(&tiling)).map_err(|_| Memory)?;
-        Ok(self.work_off_within(&mut room, &mut told, swept, limit))
+        let jobs = self.work_off_within(&mut room, &mut told, swept, limit);
+        drop(told);
+        drop(room);
+        Ok(jobs)
     }
 
     // Sweeps the first dirty tile in place until none is dirty or so many were swept, puts each into the set, and says

@@ -113,6 +113,7 @@ impl Core {
         let many = self.sweep_many(rt, alloc, swept, &mut shares, jobs);
         let few = self.sweep_few(alloc, swept, jobs - many);
         let rest = self.sweep_rounds(rt, alloc, swept, &mut shares, jobs - many - few);
+        drop(shares);
         many + few + rest
     }
 
@@ -294,6 +295,7 @@ impl Core {
         let swept_jobs = put_back(&tiling, &bands, &mut self.work, &mut self.bounds, swept);
         self.serial = self.serial.wrapping_add(swept_jobs);
         count_swept(&bands, by_rows);
+        drop(bands);
         swept_jobs
     }
 

@@ -53,13 +53,12 @@ impl Core {
         ensures err { OnErr result (self.new ≡ self.old) }
         ensures returned { IfErr result (λ e. e.0 ≡ swept) }
     {
-        let back = self.answer_to(&swept);
-        match back {
-            Back::Joined | Back::Again => match self.join(alloc, &swept, back == Back::Joined) {
-                Ok(()) => Ok(back),
-                Err(why) => Err((swept, why)),
-            },
-            Back::Stale | Back::Stranger => Ok(back),
+        match self.judge_and_join(alloc, &swept) {
+            Ok(back) => {
+                drop(swept);
+                Ok(back)
+            }
+            Err(why) => Err((swept, why)),
         }
     }
 
@@ -177,6 +176,24 @@ impl Core {
             return Back::Joined;
         }
         Back::Stranger
+    }
+
+    // Joins a swept tile that is given back into the image, where it is to be, and says what became of it.
+    //
+    // Errors: out of memory; nothing has changed then.
+    fn judge_and_join(&mut self, alloc: Global, swept: &Swept) -> Result<Back, Memory>
+        ensures given { IfOk result (λ back. IsGivenBack self.old swept.now back self.new) }
+        ensures memory { OnErr result (IsJoinable self.old swept.now.job) }
+        ensures err { OnErr result (self.new ≡ self.old) }
+    {
+        let back = self.answer_to(swept);
+        match back {
+            Back::Joined | Back::Again => {
+                self.join(alloc, swept, back == Back::Joined)?;
+                Ok(back)
+            }
+            Back::Stale | Back::Stranger => Ok(back),
+        }
     }
 
     // Joins a swept tile into the image. Where the tile is as it was when it was taken, the pixels are nowhere below

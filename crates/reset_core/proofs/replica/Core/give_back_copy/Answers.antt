@@ -1,8 +1,7 @@
 use Rattle.std.proofs.Common.{◌≡◌, List, subst, Some, None, slice_get}
 use Rattle.tile_generations.specs.Jobs.{Swept}
 use Rattle.reset_core.specs.Scheduling.{kept_of}
-use Rattle.reset_core.proofs.Scheduling.{on_ok, on_ok_at_err, no_item, item_there, no_result_to_return, result_returned}
-use Rattle.reset_core.proofs.replica.Core.give_back_copy.Goals.{in-Ok, in-Err}
+use Rattle.reset_core.proofs.Scheduling.{no_item, item_there, no_result_to_return, result_returned}
 use Rattle.reset_core.proofs.replica.Core.give_back_copy.Goals as goal
 
 pub returns-in_default-clause-step : goal.returns-in_default-clause-step
@@ -10,16 +9,11 @@ returns-in_default-clause-step c = λ n. no_result_to_return n c.args.place c.ar
     (subst (λ (results : List Swept). slice_get results c.args.place ≡ None) c.deref.ensures.value
     (no_item c.deref.result.now c.args.place c.get.result c.get.ensures.lookup c.in_default.not-Some))
 
-pub returns-clause-step : goal.returns-clause-step
-returns-clause-step c =
+pub returns-in-Ok-clause-step : goal.returns-in-Ok-clause-step
+returns-in-Ok-clause-step c = λ n.
     let swept = c.in-Some.swept.now in
     let there =
     subst (λ (results : List Swept). slice_get results c.args.place ≡ Some swept) c.deref.ensures.value
     (item_there c.deref.result.now c.args.place c.get.result c.in-Some.swept c.get.ensures.lookup c.in-Some.is) in
-    elim c.match-give_back.branch [
-      | in-Ok w ↦
-          on_ok c.match-give_back.result (λ n.
-          result_returned n c.args.place c.args.self.now c.give_back.new.self (kept_of c.args.tally.now) swept
-          w.in-Ok._back there c.pixels.ensures.swept (rw c.in_ok-copy.ensures at w.in-Ok.ensures.given))
-      | in-Err w ↦ on_ok_at_err _ c.match-give_back.result w.in-Err.why w.result-is
-    ]
+    result_returned n c.args.place c.args.self.now c.give_back.new.self (kept_of c.args.tally.now) swept
+    c.in-Ok._back there c.pixels.ensures.swept (rw c.in_ok-copy.ensures at c.in-Ok.ensures.given)

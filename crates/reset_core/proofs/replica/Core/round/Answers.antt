@@ -9,6 +9,7 @@ use Rattle.reset_core.specs.{BandParts.AreBandsCut, BandParts.AreBandsSwept, Rep
 use Rattle.grid_core.specs.Tiles.{rows_of}
 use Rattle.reset_core.proofs.Bands.Rounds.{IsLent, untouched_there, can_take_there, somewhere_there, ready_there}
 use Rattle.reset_core.proofs.Bands.Rounds.{few_there, fit_there, stored_there, into_there}
+use Rattle.reset_core.proofs.Bands.Settling.{none_swept_in_bands}
 use Rattle.reset_core.proofs.replica.Core.round.Given.{Over}
 use Rattle.reset_core.proofs.replica.Core.round.Goals as goal
 use Rattle.reset_core.proofs.replica.Core.round.Goals.{After-deref, After-deref_mut}
@@ -62,6 +63,9 @@ cut_bands-cut-requires g c =
           (left_of parts c.args.self.now c.self.view_is c.requires.left) c.tiling-tiling.result
           (tiles_of parts c.tiling-tiling.result tiles.value tiles.width tiles.height);
     }
+
+pub returns-in_default-clause-swept : goal.returns-in_default-clause-swept
+returns-in_default-clause-swept g c = none_swept_in_bands c.args.self.now c.args.swept.now c.requires.left
 
 pub sweep_bands-requires-clause-somewhere : goal.sweep_bands-requires-clause-somewhere
 sweep_bands-requires-clause-somewhere g c κs within =

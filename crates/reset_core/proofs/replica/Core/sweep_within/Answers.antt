@@ -1,5 +1,5 @@
-use Rattle.std.proofs.Common.{arith}
-use Rattle.std.proofs.{Common.subst, Common.arith, lemmas.Grind.common_steps}
+use Rattle.std.proofs.Common.{◌≤◌, subst, arith}
+use Rattle.border_queues.specs.{OpenEdges.room_for_edges, Waiting.places}
 use Rattle.core_rules.specs.{Work.Core, Runs.IsDirty}
 use Rattle.reset_core.proofs.Settling.{quiet_from, none_swept}
 use Rattle.reset_core.proofs.replica.Core.sweep_within.Goals as goal
@@ -13,8 +13,10 @@ returns-in_default-clause-works c =
       to_the_end = λ fewer. quiet_from c.args.self.now c.requires.left.none_out c.requires.left.no_hints none;
     }
 
-pub work_off_within-requires-clause-enough : goal.work_off_within-requires-clause-enough
-work_off_within-requires-clause-enough c = grind (arith, common_steps)
+pub work_off_within-jobs-requires-clause-enough : goal.work_off_within-jobs-requires-clause-enough
+work_off_within-jobs-requires-clause-enough c =
+    subst (λ tiles. room_for_edges tiles ≤ places c.in_ok-told.told) c.tiling-tiling.ensures.value
+    c.in_ok-told.ensures
 
-pub work_off_within-requires-clause-left : goal.work_off_within-requires-clause-left
-work_off_within-requires-clause-left c = grind (arith, common_steps)
+pub work_off_within-jobs-requires-clause-left : goal.work_off_within-jobs-requires-clause-left
+work_off_within-jobs-requires-clause-left c = c.requires.left

@@ -1,8 +1,8 @@
 use Rattle.std.proofs.Common.{◌≡◌, ℕ, ◌+◌, ◌*◌, ◌≤◌, ◌<◌, length, inr, refl, subst, sym, ap, ◌∙◌, arith}
-use Rattle.std.proofs.Common.{rules}
+use Rattle.std.proofs.Common.{map, false, replicate, slice_range}
 use Rattle.grid_core.specs.Tiles.{Tiles, IsTiled, columns_of, rows_of, count_of}
 use Rattle.tile_work.specs.OpenBounds.{bounds_for}
-use Rattle.tile_work.proofs.WorkTableHints.{ok_part}
+use Rattle.tile_work.specs.Cutting.{in_band}
 use Rattle.reset_core.specs.{Bands.tiles_above, BandParts.IsTilingOf}
 use Rattle.reset_core.proofs.Bands.Cuts.{tiles_within, begin_below}
 use Rattle.reset_core.proofs.replica.cutting.cut_band.Goals as goal
@@ -54,16 +54,21 @@ cut-requires-2-clause-marks c = λ t from before.
 pub returns-clause-cut : goal.returns-clause-cut
 returns-clause-cut c =
     let cut = c.band_tiling-band.ensures in
-    let no_error = sym c.is_err.ensures.value ∙ c.if-is_err.false in
-    let room = ok_part c.reserve.result _ no_error c.reserve.ensures.room in
+    let first : c.args.above * c.columns_of.result ≡ tiles_above c.args.tiling.now c.args.above =
+    ap (λ n. c.args.above * n) c.columns_of.ensures in
     record {
       tiling = subst (λ below. IsTilingOf c.args.tiling.now c.args.above below c.band_tiling-band.result) (sym cut.rows)
           cut;
       conn_is = refl;
-      work = search rules;
-      bounds = search rules;
-      swept = search rules;
+      work =
+          c.in_ok-work.ensures
+          ∙ (λ i. slice_range c.args.work.now (first i) (first i + c.count.ensures.value i));
+      bounds =
+          c.in_ok-bounds.ensures
+          ∙ (λ i. map (in_band (c.args.above * c.side.ensures.value i))
+          (slice_range c.args.bounds.now (first i) (first i + c.count.ensures.value i)));
+      swept = c.in_ok-swept.ensures ∙ (λ i. replicate (c.count-2.ensures.value i) false);
       none_yet = refl;
       limit_is = refl;
-      enough = omega (arith, room, c.room_for_edges.ensures);
+      enough = c.in_ok-told.ensures;
     }

@@ -4,7 +4,7 @@ use Rattle.grid_core.specs.Tiles.{Tiles}
 use Rattle.grid_core.specs.{declared.bounds.Bounds.Bounds}
 use Rattle.border_queues.specs.TileWork.{TileWork}
 use Rattle.reset_core.specs.declared.replica.bands.Band.{Band}
-use Rattle.reset_core.proofs.Bands.Puts.{IsPutSoFar, IsAllPut, fits_now, one_more_is, all_put}
+use Rattle.reset_core.proofs.Bands.Puts.{IsPutSoFar, IsAllPut, none_put, fits_now, one_more_is, all_put}
 use Rattle.reset_core.proofs.replica.cutting.put_back.Goals as goal
 
 -- the next band is the first of those that are left
@@ -26,6 +26,23 @@ none_left tiles works set bands i above works_now table_now set_now jobs end so_
     all_put tiles works set bands above works_now table_now set_now jobs
     (subst (λ left. IsPutSoFar tiles works set bands left above works_now table_now set_now jobs)
     (drop_all i bands end) so_far)
+
+pub loop-band-init : goal.loop-band-init
+loop-band-init c =
+    none_put c.args.tiling.now c.args.work.now c.args.bounds.now c.args.swept.now c.args.bands.now c.requires.fit
+    c.requires.tables
+
+pub put_band-requires-clause-tables : goal.put_band-requires-clause-tables
+put_band-requires-clause-tables c = c.loop-band.invariant.can_take
+
+pub overflow_add-jobs : goal.overflow_add-jobs
+overflow_add-jobs c =
+    let l = c.loop-band in
+    let i = l.band-index in
+    let next =
+    next_is_first c.args.tiling.now c.args.work.now c.args.swept.now c.args.bands.now i l.above l.work l.bounds l.swept
+    l.jobs c.band-item.result c.loop-band-test.true c.band-item.is l.invariant in
+    omega (arith, next.jobs_put, c.requires.few)
 
 pub put_band-requires-clause-fit : goal.put_band-requires-clause-fit
 put_band-requires-clause-fit c =

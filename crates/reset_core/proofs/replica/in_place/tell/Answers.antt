@@ -90,3 +90,15 @@ returns-clause-hints c =
 
 pub open_edges_in-requires-clause-bounds : goal.open_edges_in-requires-clause-bounds
 open_edges_in-requires-clause-bounds c = grind (arith, common_steps)
+
+pub open_edges_in-requires-clause-lie : goal.open_edges_in-requires-clause-lie
+open_edges_in-requires-clause-lie c = c.requires.lie
+
+pub hand_over_all-requires-clause-parts : goal.hand_over_all-requires-clause-parts
+hand_over_all-requires-clause-parts c = c.requires.tile.parts
+
+pub hand_over_all-requires-clause-bounds : goal.hand_over_all-requires-clause-bounds
+hand_over_all-requires-clause-bounds c = c.requires.bounds
+
+pub returns-clause-bounds : goal.returns-clause-bounds
+returns-clause-bounds c = c.hand_over_all.ensures.bounds

@@ -1,7 +1,7 @@
 use Rattle.std.proofs.Common.{◌<◌, ◌≤◌, length}
 use Rattle.grid_core.specs.Tiles.{rows_of}
 use Rattle.reset_core.specs.BandParts.{AreBandsCut}
-use Rattle.reset_core.proofs.replica.cutting.cut_bands.Given as goal
+use Rattle.reset_core.proofs.replica.cutting.cut_into.Given as goal
 
 -- the bands so far are cut out, and at most as many as cuts were looked at
 abbrev pub invariant-loop-below : goal.invariant-loop-below

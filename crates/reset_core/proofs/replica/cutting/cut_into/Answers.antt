@@ -5,9 +5,9 @@ use Rattle.border_queues.specs.TileWork.{TileWork}
 use Rattle.reset_core.specs.declared.replica.bands.Band.{Band}
 use Rattle.reset_core.specs.BandParts.{AreBandsCut, IsBandCut}
 use Rattle.reset_core.proofs.Bands.Cuts.{one_more_cut}
-use Rattle.reset_core.proofs.replica.cutting.cut_bands.Goals as goal
-use Rattle.reset_core.proofs.replica.cutting.cut_bands.Goals.{then-above-below+then-below-rows+in_ok-band+in_ok-push}
-use Rattle.reset_core.proofs.replica.cutting.cut_bands.Goals.{else-above-below}
+use Rattle.reset_core.proofs.replica.cutting.cut_into.Goals as goal
+use Rattle.reset_core.proofs.replica.cutting.cut_into.Goals.{then-above-below+then-below-rows+in_ok-band+in_ok-push}
+use Rattle.reset_core.proofs.replica.cutting.cut_into.Goals.{else-above-below}
 
 -- once one band more is cut out and put behind the others
 cut_more : (tiles : Tiles) (conn : Conn) (limit : ℕ) (works : List TileWork) (table : List Bounds) (bands : List Band)
