@@ -1,6 +1,7 @@
 -- What follows of chains, and how they grow.
-use Rattle.std.proofs.Common.{◌≡◌, List, [], ◌∷◌, ◌++◌, length, drop, refl, ap, sym, ◌∙◌, subst, All, Some}
+use Rattle.std.proofs.Common.{◌≡◌, List, [], ◌∷◌, ◌++◌, length, drop, take, refl, ap, sym, ◌∙◌, subst, All, Some}
 use Rattle.std.proofs.lemmas.List.{take-append-drop}
+use Rattle.std.proofs.Math.Seq.{take-append_seam}
 use Rattle.std.proofs.lemmas.List.Elements.{All-nil, All-cons, All-head, All-push, All-tail, All-weaker}
 use Rattle.stroke_lattice.proofs.Joins.{below_itself, below_through}
 use Rattle.studio.specs.Shots.{Shot, IsSound}
@@ -96,3 +97,9 @@ holds_begins chain seen h =
 -- what goes on from a chain begins with what that began with
 pub begins_on : (old new seen : List Shot) → Holds old seen → Begins new old → Begins new seen
 begins_on old new seen h b = prefix_trans seen old new (holds_begins old seen h) b
+
+-- and so it does as an equation
+pub holds_on : (old new seen : List Shot) → Holds old seen → Begins new old → Holds new seen
+holds_on old new seen h b =
+    let on : Begins new seen = begins_on old new seen h b in
+    subst (λ (l : List Shot). take (length seen) l ≡ seen) on.1 (take-append_seam seen on.0)

@@ -1,6 +1,9 @@
 -- Each step keeps the rule of what is published.
 use Rattle.std.proofs.Common.{◌≡◌, ◌≢◌, ℕ, List, [], ◌∷◌, ◌++◌, set, sym, refl, ap, ◌∙◌, subst, ⊎_elim, All, Some, fold}
+use Rattle.std.proofs.Common.{◌⊎◌, Result, Ok, Err, false}
 use Rattle.std.proofs.{lemmas.List.Sums.fold-append, lemmas.List.Elements.All-nil, lemmas.List.Elements.All-cons}
+use Rattle.std.proofs.{lemmas.List.Elements.All-head, lemmas.Bool.false≢true}
+use Rattle.core.specs.Result.{MatchResult, is_err}
 use mathlib.Core.Option.{some, some-ne-none}
 use mathlib.Core.List.{IsPrefix}
 use lib.ListN.{get_elem?}
@@ -133,3 +136,44 @@ pub publishes_again : (seat : ℕ) (v : ChainView) (x next : Shown) (pend : List
     → published next ≡ fold taken (published x) pend → TurnsAt IsShown seat v x next Shows
 publishes_again seat v x next pend none is =
     repeats seat v x next (is ∙ ap (λ (l : List Shown). fold taken (published x) l) none)
+
+-- what is pending, once one more is, is published as that one
+pub pending_taken : (p : Published) (x : Shown) (old new : List Shown) → new ≡ old ++ x ∷ []
+    → fold taken p new ≡ taken p x
+pending_taken p x old new is = ap (λ (l : List Shown). fold taken p l) is ∙ fold_last p old x
+
+-- so it may come next where that one may
+pub next_pending : (x was now : Shown) (old new : List Shown) → now ≡ was → new ≡ old ++ x ∷ []
+    → IsNext (published was) (published x) → IsNext (published now) (fold taken (published now) new)
+next_pending x was now old new same is next =
+    subst (λ (q : Published). IsNext (published now) q) (sym (pending_taken (published now) x old new is))
+    (subst (λ (v : Shown). IsNext (published v) (published x)) (sym same) next)
+
+-- the only history that a thread knows is that of what is published
+pub one_book : (p : Published) (v : ChainView) (b : Book) → books v ≡ b ∷ [] → Fits p v → p.prefix.reached.book ≡ b
+one_book p v b is f =
+    let P : Book → Type 0 = λ c. c ≡ p.prefix.reached.book in
+    sym (All-head P b [] (subst (λ (l : List Book). All P l) is f.0))
+
+-- either of them
+pub publishes_any : (seat : ℕ) (v : ChainView) (x next : Shown) (pend : List Shown)
+    → (pend ≡ []) ⊎ IsNext (published x) (fold taken (published x) pend)
+    → published next ≡ fold taken (published x) pend → TurnsAt IsShown seat v x next Shows
+publishes_any seat v x next pend may is =
+    ⊎_elim
+    (λ (none : pend ≡ []). publishes_again seat v x next pend none is)
+    (λ (ok : IsNext (published x) (fold taken (published x) pend)). publishes seat v x next pend ok is)
+    may
+
+-- what holds of each success holds where there was no error
+pub told_unless_err : {T E : Type 0} (r : Result T E) (A : Type 0) → MatchResult r (λ _. A) (λ _. Unit {0})
+    → false ≡ is_err r → A
+told_unless_err (Ok x) A told none = told
+told_unless_err (Err e) A told none = absurd (false≢true none)
+
+-- where nothing was pending the same is published, whether memory ran out or not
+pub shown_again : {T E : Type 0} (r : Result T E) (was now : Shown) (pend : List Shown) → pend ≡ []
+    → MatchResult r (λ _. published now ≡ fold taken (published was) pend) (λ _. now ≡ was)
+    → published now ≡ published was
+shown_again (Ok x) was now pend none is = is ∙ ap (λ (l : List Shown). fold taken (published was) l) none
+shown_again (Err e) was now pend none is = ap published is

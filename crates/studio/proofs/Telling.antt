@@ -1,7 +1,7 @@
 -- What histories say of chains.
 use Rattle.std.proofs.Common.{◌≡◌, ◌+◌, ◌≤◌, List, [], ◌∷◌, ◌++◌, length, refl, ap, sym, ◌∙◌, subst, arith, Option}
 use Rattle.std.proofs.Common.{Some, None, ◌⊎◌, ⊎_elim, inl, inr}
-use Rattle.std.proofs.lemmas.List.{append-nil}
+use Rattle.std.proofs.lemmas.List.{append-nil, length-append}
 use mathlib.Core.List.{IsPrefix}
 use Rattle.studio.specs.{declared.shots.history.Entry.Entry, Shots.Shot}
 use Rattle.studio.specs.declared.shots.history.Entry.TheVariants.{Announced, Confirmed}
@@ -44,6 +44,14 @@ announced_next old mid s is = ap whole is ∙ next_at None old s
 -- once it is confirmed, the chain is the one up to the shot that was announced
 pub confirmed_next : (mid new : List Entry) → new ≡ mid ++ Confirmed ∷ [] → confirmed new ≡ whole mid
 confirmed_next mid new is = ap confirmed is
+
+-- what is told of a confirmation is one entry longer than what is shown, which was announced
+pub abreast_next : (mid new shown told : List Entry) → new ≡ mid ++ Confirmed ∷ [] → shown ≡ mid → told ≡ new
+    → length told ≤ length shown + 1
+abreast_next mid new shown told is same also =
+    let long : length told ≡ length mid + 1 = ap (λ (l : List Entry). length l) (also ∙ is) ∙ length-append mid _ in
+    let short : length shown ≡ length mid = ap (λ (l : List Entry). length l) same in
+    omega (arith, long, short)
 
 -- what a show does to the history
 pub ruleset one_shown = (announced, announced_next, confirmed_next)

@@ -112,6 +112,7 @@ impl Publisher {
         ensures studio { publisher_studio self.new ≡ publisher_studio self.old }
     {
         if !has_room(self.prefix.count) {
+            drop(shot);
             return Err(Memory);
         }
         let Ok(shot) = Arc::new(self.alloc, shot) else {

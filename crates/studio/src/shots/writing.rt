@@ -1,6 +1,6 @@
 //! Steps of the writer.
 
-ghost use Rattle.std.specs.Prelude.{◌≡◌, ◌<◌, ◌≤◌, [], ◌∷◌, fold, drop, MatchResult, IfOk};
+ghost use Rattle.std.specs.Prelude.{◌≡◌, ◌<◌, ◌≤◌, ◌⊎◌, [], ◌∷◌, fold, drop, MatchResult, IfOk};
 ghost use Rattle.std.specs.Arc.{arc_value};
 ghost use Rattle.left_right.specs.Sides.{view};
 ghost use Rattle.studio.specs.Shots.{IsSound};
@@ -18,9 +18,10 @@ use std::sync::{Arc, Wait};
 /// The writer of what is published. End it by `take`.
 pub type Writing = Writer<Shown, Shown, ChainView, Shots>;
 
-// Publishes what is pending. Where memory runs out readers see what they saw.
-fn publish_next<R: Wait>(writing: Writing, rt: &R) -> (Writing, Result<(), AllocError>)
-    requires next { IsNext (published writing.desk.shown.value)
+// Publishes what is pending, or once more what is published. Where memory runs out readers see what they saw.
+fn publish<R: Wait>(writing: Writing, rt: &R) -> (Writing, Result<(), AllocError>)
+    requires next { (drop writing.behind writing.log.items ≡ [])
+        ⊎ IsNext (published writing.desk.shown.value)
         (fold taken (published writing.desk.shown.value) (drop writing.behind writing.log.items)) }
     ensures values { MatchResult result.1
         (λ _. published result.0.desk.shown.value
@@ -49,7 +50,7 @@ pub fn show_next<R: Wait>(writing: Writing, next: (&R, Shown)) -> (Writing, Resu
     if let Err(_) = writing.append(shown) {
         return (writing, Err(AllocError));
     }
-    publish_next(writing, rt)
+    publish(writing, rt)
 }
 
 // Publishes what is published once more, so that the writer knows it.
@@ -60,7 +61,7 @@ fn publish_again<R: Wait>(writing: Writing, rt: &R) -> (Writing, Result<(), Allo
         (λ _. view result.0.desk.place ≡ informed (published result.0.desk.shown.value))
         (λ _. Unit {0}) }
 {
-    writing.publish_as::<Show, R>(rt)
+    publish(writing, rt)
 }
 
 /// A writer that shows the first shot of the history.
