@@ -40,13 +40,18 @@ fn start<'s, E, R: Wait + Clock + Sync>(
     hand: Hand,
     flag: &'s AtomicBool,
 ) {
-    let mut hand = hand;
-    let _started = scope.spawn(move || work(rt, &mut hand, flag)).is_ok();
+    drop(scope.spawn(move || work(rt, hand, flag)));
+}
+
+// Lets a hand work until the flag is set.
+fn work<R: Wait + Clock>(rt: &R, mut hand: Hand, done: &AtomicBool) {
+    turn_until(rt, &mut hand, done);
+    drop(hand);
 }
 
 // Makes turns until the flag is set. It looks at the flag before each turn, and rests after each one in which there was
 // nothing to do.
-fn work<R: Wait + Clock>(rt: &R, hand: &mut Hand, done: &AtomicBool) {
+fn turn_until<R: Wait + Clock>(rt: &R, hand: &mut Hand, done: &AtomicBool) {
     for _ in rt.forever() {
         if done.load(Ordering::SeqCst) {
             return;
