@@ -7,9 +7,10 @@
 
 use crate::drawn::{EACH, EDITS, core, edit};
 use crate::outcome::{Fault, MEMORY, Outcome, check};
-use crate::studios::{open, spawn_hands, take_in, turn};
+use crate::studios::{is_made, open, spawn_hands, take_in, turn};
 use crate::system::System;
 use core_dispatch::{Full, Pen, Refusal};
+use grid_core::Grid;
 use marker_tiles::marker;
 use raster_sweeps::slow;
 use std::alloc::Global;
@@ -18,6 +19,7 @@ use std::sync::{Arc, OnceLock};
 use std::thread;
 use stroke_lattice::{Delta, State};
 use studio::{Eye, Keeper};
+use tiled_core::TiledCore;
 
 // What the threads of a round share: what decides all that is drawn, how many pens have not submitted all yet, whether
 // the round is over, and what was not as it should be.
@@ -54,10 +56,8 @@ fn play<R: System>(rt: &R, alloc: Global, seed: u64) -> Outcome {
     thread::scope(thread::scope_env(), rt, move |scope| {
         round.note(spawn_hands(scope, rt, hands, &round.done));
         for (pen, eye) in pens.into_iter().zip(eyes) {
-            let writing = scope.spawn(move || round.write(alloc, pen));
-            let watching = scope.spawn(move || round.watch(eye));
-            let are_made = writing.is_ok() && watching.is_ok();
-            round.note(check(are_made, "a thread can not be made"));
+            round.note(is_made(scope.spawn(move || round.write(alloc, pen))));
+            round.note(is_made(scope.spawn(move || round.watch(eye))));
         }
         round.note(round.keep(rt, lent));
         round.done.store(true, Ordering::SeqCst);
@@ -155,27 +155,70 @@ impl Round {
 
 // Checks what a round leaves.
 fn judge(alloc: Global, keeper: &Keeper, seed: u64) -> Outcome {
-    let (core, mask) = (keeper.core(), keeper.core().mask());
-    let joined = joined(alloc, keeper.refusals(), seed)?;
-    check(joined.is_same(core.state()), "not the strokes of the edits")?;
-    if joined.outside(mask.width(), mask.height()).is_some() {
-        return Err(Fault("a stroke was taken that does not fit"));
-    }
-    let marker = marker(alloc, mask, &joined).or(Err(MEMORY))?;
-    let grown = slow(alloc, mask, &marker, core.conn()).or(Err(MEMORY))?;
-    let image = core.image(alloc).or(Err(MEMORY))?;
-    check(image.is_same(&grown), "not what grows from them")
+    let mut strokes = State::empty(alloc).or(Err(MEMORY))?;
+    let found = judge_with(alloc, keeper, seed, &mut strokes);
+    drop(strokes);
+    found
 }
 
-// The join of all edits that are not listed as refused.
-fn joined(alloc: Global, refusals: &[Refusal], seed: u64) -> Result<State, Fault> {
-    let mut joined = State::empty(alloc).or(Err(MEMORY))?;
-    for own in 0..EACH as u64 * EDITS {
-        let edit = edit(alloc, seed, own).ok_or(MEMORY)?;
-        let is_listed = refusals.iter().any(|one| one.pen as u64 == own / EDITS
-            && one.number == own % EDITS);
-        let is_right = is_listed || joined.merge(alloc, &edit).is_ok();
-        check(is_right, "an edit was taken that clashes")?;
+// Joins the edits that are not listed as refused with the strokes, and checks that the core has these strokes, and what
+// grows from them.
+fn judge_with(alloc: Global, keeper: &Keeper, seed: u64, strokes: &mut State) -> Outcome {
+    for number in 0..EACH as u64 * EDITS {
+        if !is_listed(keeper.refusals(), number) {
+            join(alloc, strokes, seed, number)?;
+        }
     }
-    Ok(joined)
+    let core = keeper.core();
+    check(
+        strokes.is_same(core.state()),
+        "not the strokes of the edits",
+    )?;
+    judge_image(alloc, core, strokes)
+}
+
+// Whether an edit is listed as refused.
+fn is_listed(refusals: &[Refusal], number: u64) -> bool {
+    refusals.iter().any(|one| one.pen as u64 == number / EDITS && one.number == number % EDITS)
+}
+
+// Joins an edit with the strokes.
+fn join(alloc: Global, strokes: &mut State, seed: u64, number: u64) -> Outcome {
+    let edit = edit(alloc, seed, number).ok_or(MEMORY)?;
+    let joined = strokes.merge(alloc, &edit);
+    drop(edit);
+    match joined {
+        Ok(change) => {
+            drop(change);
+            Ok(())
+        }
+        Err(_why) => Err(Fault("an edit was taken that clashes")),
+    }
+}
+
+// Checks that the image of a core is what grows from the strokes.
+fn judge_image(alloc: Global, core: &TiledCore, strokes: &State) -> Outcome {
+    let grown = grown_from(alloc, core, strokes)?;
+    let found = match core.image(alloc) {
+        Ok(image) => {
+            let is_same = image.is_same(&grown);
+            drop(image);
+            check(is_same, "not what grows from them")
+        }
+        Err(_why) => Err(MEMORY),
+    };
+    drop(grown);
+    found
+}
+
+// What grows from strokes on the mask of a core.
+fn grown_from(alloc: Global, core: &TiledCore, strokes: &State) -> Result<Grid, Fault> {
+    let mask = core.mask();
+    if strokes.outside(mask.width(), mask.height()).is_some() {
+        return Err(Fault("a stroke was taken that does not fit"));
+    }
+    let marker = marker(alloc, mask, strokes).or(Err(MEMORY))?;
+    let grown = slow(alloc, mask, &marker, core.conn());
+    drop(marker);
+    grown.or(Err(MEMORY))
 }

@@ -44,11 +44,18 @@ pub fn spawn_hands<'s, E: 's, R: System>(
     hands: Vec<Hand>,
     done: &'s AtomicBool,
 ) -> Outcome {
-    let mut are_made = true;
+    let mut all = Ok(());
     for hand in hands {
-        are_made = scope.spawn(move || work(rt, hand, done)).is_ok() && are_made;
+        all = all.and(is_made(scope.spawn(move || work(rt, hand, done))));
     }
-    check(are_made, "a thread can not be made")
+    all
+}
+
+/// Nothing where a thread was made, which the scope waits for, or that none could be. What it was to own is let go.
+pub fn is_made<T: Drop, E: Drop>(started: Result<T, E>) -> Outcome {
+    let is_made = started.is_ok();
+    drop(started);
+    check(is_made, "a thread can not be made")
 }
 
 // Lets a hand work until the flag is set.
@@ -221,21 +228,37 @@ fn sum_of_generations(keeper: &Keeper) -> u64 {
 // Has an edit submitted and seen, and prints what it took until then, and what two shows took.
 fn see(rt: &impl System, keeper: &mut Keeper, seats: &mut Seats, edit: &Delta) -> Outcome {
     let copy = edit.copy(rt.alloc()).or(Err(MEMORY))?;
-    let mut laps = Laps::begin(rt);
+    let laps = Laps::begin(rt);
     submit(seats, copy)?;
     turn(keeper)?;
     let first = time_of_show(rt, keeper)?;
-    let (_pen, eye) = seats;
-    let Some(Ok(glimpse)) = eye.take().map(|eye| eye.look()) else {
-        return Err(Fault("the studio is closed"));
-    };
-    let seen = laps.lap(rt);
-    let is_seen = edit.is_below(glimpse.state());
-    *eye = Some(glimpse.leave());
-    check(is_seen, "an edit is not seen")?;
+    let seen = time_until_seen(rt, laps, seats, edit)?;
     let second = time_of_show(rt, keeper)?;
     println!(rt; "{seen} {first} {second}")?;
     Ok(())
+}
+
+// What the lap took until the eye has a glimpse. The edit has to be in it.
+fn time_until_seen(
+    rt: &impl System,
+    mut laps: Laps,
+    seats: &mut Seats,
+    edit: &Delta,
+) -> Result<u128, Fault> {
+    let (_pen, seat) = seats;
+    let Some(eye) = seat.take() else {
+        return Err(Fault("there is no eye"));
+    };
+    match eye.look() {
+        Ok(glimpse) => {
+            let seen = laps.lap(rt);
+            let is_seen = edit.is_below(glimpse.state());
+            *seat = Some(glimpse.leave());
+            check(is_seen, "an edit is not seen")?;
+            Ok(seen)
+        }
+        Err(eye) => Fault("the studio is closed").dropping(eye),
+    }
 }
 
 // What a show takes.

@@ -5,7 +5,7 @@ ghost use Rattle.live_board.specs.Seats.{IsKeeperOf};
 ghost use Rattle.thread_tests.specs.Company.{AreOf};
 
 use crate::company::Seats;
-use crate::outcome::{NO_MEMORY, Outcome, right_if, told};
+use crate::outcome::{NO_MEMORY, Outcome, right_if, succeeded, told};
 use crate::peeks::{next_hand, next_peek};
 use crate::pictures::{BARE, Edit, GROWN, Mask, PLANTED};
 use crate::scene::{Scene, open_on, stop};
@@ -19,7 +19,7 @@ use std::test::Fail;
 /// Whether the pen submits the edit, and the next turn merges it.
 pub fn merges(alloc: Global, scene: &mut Scene, edit: Edit) -> bool {
     match edit.delta(alloc) {
-        Some(delta) => scene.pen.submit(delta).is_ok() & (scene.keeper.turn().edits == 1),
+        Some(delta) => succeeded(scene.pen.submit(delta)) & (scene.keeper.turn().edits == 1),
         None => false,
     }
 }

@@ -1,5 +1,6 @@
 //! Sixteen pens in one thread, two hands and eyes in threads of their own, and a keeper that makes turns and shows.
 
+use crate::outcome::succeeded;
 use crate::pictures::{Edit, Mask, grown, is_grown};
 use crate::playing::PATIENCE;
 use core_dispatch::{Full, Pen};
@@ -145,7 +146,7 @@ fn watch(alloc: Global, mut eye: Eye, found: &Found) {
 
 fn watches<'s, E>(alloc: Global, scope: &Scope<'s, E>, eye: Option<Eye>, found: &'s Found) -> bool {
     match eye {
-        Some(eye) => scope.spawn(move || watch(alloc, eye, found)).is_ok(),
+        Some(eye) => succeeded(scope.spawn(move || watch(alloc, eye, found))),
         None => false,
     }
 }
@@ -159,7 +160,7 @@ fn works<'s, E, R: Wait + Sync>(
     found: &'s Found,
 ) -> bool {
     match hand {
-        Some(hand) => scope.spawn(move || sweep(rt, hand, found)).is_ok(),
+        Some(hand) => succeeded(scope.spawn(move || sweep(rt, hand, found))),
         None => false,
     }
 }
@@ -208,7 +209,7 @@ fn work<R: Threads + Wait + Sync>(
         let two = works(rt, scope, hands.pop(), seen);
         let three = watches(alloc, scope, eyes.pop(), seen);
         let four = watches(alloc, scope, eyes.pop(), seen);
-        let five = scope.spawn(move || draw_all(alloc, pens, seen)).is_ok();
+        let five = succeeded(scope.spawn(move || draw_all(alloc, pens, seen)));
         let are_kept = (one & two & three & four & five) && keeps(rt, keeper, seen);
         seen.done.store(true, Ordering::SeqCst);
         are_kept

@@ -2,7 +2,7 @@
 
 ghost use Rattle.std.specs.Prelude.{⊤};
 
-use crate::outcome::{right_if, told};
+use crate::outcome::{right_if, succeeded, told};
 use crate::pictures::{BARE, Edit, GROWN, Mask, settles};
 use crate::playing::{Barrier, Line, PATIENCE, plays};
 use crate::scene::{close, open_on};
@@ -20,7 +20,7 @@ fn start<'s, E>(scope: &Scope<'s, E>, hands: &mut Vec<Hand>, count: u8, gate: &'
     let mut are_begun = true;
     for _ in 0..count {
         are_begun = match hands.pop() {
-            Some(hand) => scope.spawn(move || sweeps_one(hand, gate)).is_ok() & are_begun,
+            Some(hand) => succeeded(scope.spawn(move || sweeps_one(hand, gate))) & are_begun,
             None => false,
         };
     }

@@ -7,6 +7,7 @@ ghost use Rattle.studio.specs.Keeping.{books_of};
 ghost use Rattle.thread_tests.specs.Company.{IsCompany};
 
 use crate::frames::{FIRST, OF_ANOTHER_IMAGE};
+use crate::outcome::succeeded;
 use crate::pictures::{BOTH, Edit, Mask, settles};
 use crate::scene::{Scene, close_keeper, ends_of, open};
 use grid_core::Conn;
@@ -46,7 +47,7 @@ fn node_of(scene: Scene) -> (Keeper, Node)
 fn takes(alloc: Global, core: &mut Core, edit: Edit) -> bool {
     match edit.delta(alloc) {
         Some(delta) => {
-            let is_taken = core.merge(alloc, &delta).is_ok();
+            let is_taken = succeeded(core.merge(alloc, &delta));
             drop(delta);
             is_taken
         }

@@ -18,6 +18,13 @@ pub fn right_if(is_so: bool, what: &'static str) -> Outcome {
     if is_so { Ok(()) } else { Err(what) }
 }
 
+/// Whether a call succeeded. What it answered is let go by one call.
+pub fn succeeded<T: Drop, E: Drop>(answer: Result<T, E>) -> bool {
+    let has_succeeded = answer.is_ok();
+    drop(answer);
+    has_succeeded
+}
+
 /// The end of a test.
 pub fn told(outcome: Outcome) -> Result<(), Fail> {
     outcome.map_err(|what| Fail::new(what))

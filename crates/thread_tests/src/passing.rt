@@ -1,5 +1,6 @@
 //! Tiles that wait for those beside them, in one thread.
 
+use crate::outcome::succeeded;
 use crate::pictures::{Edit, Mask};
 use core_dispatch::{Books, Dispatcher, OpenedBooks};
 use grid_core::Conn;
@@ -22,7 +23,11 @@ fn core_of_many_tiles(alloc: Global) -> Option<Core> {
 // Whether a stroke over all tiles is merged.
 fn spreads(alloc: Global, core: &mut Core) -> bool {
     match Edit::Spread.delta(alloc) {
-        Some(spread) => core.merge(alloc, &spread).is_ok(),
+        Some(spread) => {
+            let is_merged = succeeded(core.merge(alloc, &spread));
+            drop(spread);
+            is_merged
+        }
         None => false,
     }
 }

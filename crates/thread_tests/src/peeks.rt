@@ -7,7 +7,7 @@ ghost use Rattle.thread_tests.specs.Company.{IsCrewOf};
 
 use crate::boards::{closes_on, merges};
 use crate::company::Crew;
-use crate::outcome::NO_MEMORY;
+use crate::outcome::{NO_MEMORY, succeeded};
 use crate::pictures::{BOTH, Edit, LEFT, Mask};
 use crate::playing::{PATIENCE, reaches};
 use crate::scene::{Scene, open_on, stop};
@@ -170,10 +170,10 @@ fn runs<R: Threads + Wait + Sync>(
                 peek,
             } = crew;
             let are_there = one.is_some() & two.is_some() & peek.is_some();
-            let first = scope.spawn(move || goes_round(board, one, found));
-            let second = scope.spawn(move || goes_round(board, two, found));
-            let third = scope.spawn(move || watches(board, peek, mask, found));
-            let are_begun = are_there & first.is_ok() & second.is_ok() & third.is_ok();
+            let first = succeeded(scope.spawn(move || goes_round(board, one, found)));
+            let second = succeeded(scope.spawn(move || goes_round(board, two, found)));
+            let third = succeeded(scope.spawn(move || watches(board, peek, mask, found)));
+            let are_begun = are_there & first & second & third;
             let are_mirrored = mirrors_all(alloc, scene, board, &mut keeper, found, are_begun);
             found.done.store(true, Ordering::SeqCst);
             (are_mirrored, keeper)

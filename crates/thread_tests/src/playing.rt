@@ -3,6 +3,7 @@
 ghost use Rattle.thread_tests.specs.Company.{IsCompany};
 
 use crate::company::Scene;
+use crate::outcome::succeeded;
 use crate::pictures::{Edit, has_cells};
 use core_dispatch::{Full, Turned};
 use std::alloc::Global;
@@ -143,7 +144,7 @@ pub fn submits(scene: &mut Scene, delta: Option<Delta>) -> bool
     ensures { IsCompany scene.new }
 {
     match delta {
-        Some(delta) => scene.pen.submit(delta).is_ok(),
+        Some(delta) => succeeded(scene.pen.submit(delta)),
         None => false,
     }
 }

@@ -1,6 +1,6 @@
 //! Pools of hands, without a studio.
 
-use crate::outcome::{NO_MEMORY, Outcome, OutcomeOf, right_if, told};
+use crate::outcome::{NO_MEMORY, Outcome, OutcomeOf, right_if, succeeded, told};
 use crate::pictures::{GROWN, Mask};
 use crate::playing::PATIENCE;
 use grid_core::{Conn, Grid, Pixel};
@@ -33,7 +33,7 @@ fn job(alloc: Global) -> Option<Job> {
 
 fn is_pushed(alloc: Global, owner: &mut Owner) -> bool {
     match job(alloc) {
-        Some(job) => owner.push(job).is_ok(),
+        Some(job) => succeeded(owner.push(job)),
         None => false,
     }
 }
@@ -96,6 +96,17 @@ fn next_report(owner: &mut Owner) -> Option<Report> {
     None
 }
 
+// Whether the hand has nothing to report.
+fn is_silent(owner: &mut Owner, hand: usize) -> bool {
+    match owner.collect(hand) {
+        Some(report) => {
+            drop(report);
+            false
+        }
+        None => true,
+    }
+}
+
 // Whether the job comes back: where there was no memory to sweep it, it fails, and is pushed again.
 fn comes_back(alloc: Global, owner: &mut Owner) -> Outcome {
     right_if(is_pushed(alloc, owner), NO_MEMORY)?;
@@ -105,7 +116,7 @@ fn comes_back(alloc: Global, owner: &mut Owner) -> Outcome {
     }
     let mut are_silent = true;
     for hand in 0..3 {
-        are_silent = owner.collect(hand).is_none() & are_silent;
+        are_silent = is_silent(owner, hand) & are_silent;
     }
     right_if(are_silent, "a report too many")
 }
@@ -126,8 +137,7 @@ fn comes_from_thread<R: Threads + Wait + Sync>(
     let (watch, done) = (Watch::default(), AtomicBool::new(false));
     let (gate, flag) = (&watch, &done);
     let outcome = thread::scope(thread::scope_env(), rt, |scope| {
-        let is_made = scope.spawn(move || sweep(rt, hand, gate, flag)).is_ok();
-        let outcome = if is_made {
+        let outcome = if succeeded(scope.spawn(move || sweep(rt, hand, gate, flag))) {
             comes_back(alloc, owner)
         } else {
             Err(NO_MEMORY)

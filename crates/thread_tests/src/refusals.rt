@@ -7,7 +7,7 @@ ghost use Rattle.studio.specs.Keeping.{books_of};
 ghost use Rattle.thread_tests.specs.Company.{IsCompany};
 
 use crate::boards::opened_board;
-use crate::outcome::{CHANGED, NO_MEMORY, Outcome, OutcomeOf, right_if, told};
+use crate::outcome::{CHANGED, NO_MEMORY, Outcome, OutcomeOf, right_if, succeeded, told};
 use crate::pictures::{Edit, Mask, has_cells, sum_of, sum_of_tiled};
 use crate::playing::{hand_turn, submits, turn};
 use crate::scene::{Scene, give_up, leave, open, scene_of, shows};
@@ -204,7 +204,7 @@ fn settles(alloc: Global, mut closed: Closed) -> Outcome {
 fn settles_on_threes(alloc: Global, closed: &mut Closed) -> Outcome {
     let Closed { core, refusals } = closed;
     for refusal in refusals {
-        let is_merged = core.merge(alloc, &refusal.delta).is_ok();
+        let is_merged = succeeded(core.merge(alloc, &refusal.delta));
         right_if(
             is_merged & (refusal.error == CoreError::Memory),
             "an edit is refused again",

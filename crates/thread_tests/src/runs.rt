@@ -2,7 +2,7 @@
 
 use crate::frames::{BOTH, FIRST, OF_ANOTHER_IMAGE, SECOND};
 use crate::nodes::link_with;
-use crate::outcome::{CHANGED, NO_MEMORY, Outcome, OutcomeOf, right_if, told};
+use crate::outcome::{CHANGED, NO_MEMORY, Outcome, OutcomeOf, right_if, succeeded, told};
 use byte_devices::{MemorySink, MemorySource};
 use grid_core::{Conn, Memory, TILE_SIDE};
 use link_nodes::{Link, MemoryLink, UdpLink};
@@ -252,7 +252,7 @@ fn writes<R: Threads + Wait + Clock + Sync>(rt: &R, alloc: Global, link: UdpLink
     let answer = ALONE.answer(rt, alloc, &mut ends);
     let is_written = ends.sink.written() == b"P5\n5 1\n255\nCEBBB".as_slice();
     drop(ends);
-    answer.is_ok() & is_written
+    succeeded(answer) & is_written
 }
 
 #[test]

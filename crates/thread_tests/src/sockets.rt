@@ -1,5 +1,6 @@
 //! Links over sockets: who hears what is sent, and which calls fail. No wait has an end but a number of tries.
 
+use crate::outcome::succeeded;
 use byte_devices::Fault;
 use link_nodes::{BUFFER_BYTES, Link, UdpLink};
 use node_session::network::{Loopback, Network};
@@ -52,12 +53,18 @@ fn bound_link<R: Net>(rt: &R, alloc: Global, port: u16, peers: &[u16]) -> Option
 
 fn links_at<R: Net>(rt: &R, alloc: Global, ports: [u16; 4]) -> Option<Links> {
     let [port, one, two, three] = ports;
-    Some(Links {
-        speaker: bound_link(rt, alloc, port, &[0, one, two, three])?,
-        one: bound_link(rt, alloc, one, &[port])?,
-        two: bound_link(rt, alloc, two, &[port])?,
-        three: bound_link(rt, alloc, three, &[port])?,
-    })
+    let speaker = bound_link(rt, alloc, port, &[0, one, two, three]);
+    let first = speaker.zip(bound_link(rt, alloc, one, &[port]));
+    let second = bound_link(rt, alloc, two, &[port]).zip(bound_link(rt, alloc, three, &[port]));
+    match first.zip(second) {
+        Some(((speaker, one), (two, three))) => Some(Links {
+            speaker,
+            one,
+            two,
+            three,
+        }),
+        None => None,
+    }
 }
 
 fn bound_links<R: Net>(rt: &R, alloc: Global) -> Option<Links> {
@@ -137,7 +144,7 @@ fn binds<R: Net + Clock>(rt: &R, alloc: Global, ports: [u16; 4]) -> bool {
     let Ok(mut link) = network.bind(port, Vec::new(alloc)) else {
         return false;
     };
-    hears_here(rt, &mut link, port) & network.bind(port, Vec::new(alloc)).is_err()
+    hears_here(rt, &mut link, port) & !succeeded(network.bind(port, Vec::new(alloc)))
 }
 
 #[test]
