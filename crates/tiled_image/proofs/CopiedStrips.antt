@@ -97,6 +97,14 @@ module _ (strip : Rect) (source : Raster) (from to : Rect) (count : ℕ) (can : 
       row_ends_within to.w (strip.y - to.y + y) (strip.x - to.x) strip.w to.h count
       (omega (arith, below, can.lies_to.2, can.lies_to.3)) across can.room
 
+  -- and among few cells
+  pub row_small : (y : ℕ) → y < strip.h → row_start strip to y + strip.w ≤ 67108864
+  row_small y below =
+      let room : row_start strip to y + strip.w ≤ to.w * to.h =
+      row_ends_within to.w (strip.y - to.y + y) (strip.x - to.x) strip.w to.h (to.w * to.h)
+      (omega (arith, below, can.lies_to.2, can.lies_to.3)) across (omega arith) in
+      omega (arith, room, can.small)
+
   -- so does each row in cells that show the source's rectangle
   pub row_within_source : (cells : ℕ) → from.w * from.h ≤ cells → (y : ℕ) → y < strip.h
       → row_start strip from y + strip.w ≤ cells

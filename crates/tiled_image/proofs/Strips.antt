@@ -164,6 +164,13 @@ module _ (tiling : Tiles) (tile : ℕ) (tiled : IsTiled tiling) (within : tile <
         let fits = tiles_lie_inside tiling tile tiled within in
         strip_lies edge (rect_of tiling tile) fits.some_width fits.some_height
 
+    -- so is its strip
+    pub tile_strip_small : ((strip_of tiling tile edge).x + (strip_of tiling tile edge).w < 4294967296)
+        × ((strip_of tiling tile edge).y + (strip_of tiling tile edge).h < 4294967296)
+    tile_strip_small =
+        let lies = tile_strip_lies in
+        let small = tile_small in (omega (arith, lies.1, small.0), omega (arith, lies.3, small.1))
+
     pub tile_strip_within : (strip_of tiling tile edge).w * (strip_of tiling tile edge).h ≤ tiling.side
     tile_strip_within = strip_within edge (rect_of tiling tile) tiling.side (omega arith) (omega arith)
 

@@ -3,11 +3,68 @@ use Rattle.std.proofs.Common.{◌≡◌, ℕ, ◌+◌, ◌≤◌, List, length, 
 use Rattle.grid_core.specs.{Raster.value_at, Rects.IsRowOf, Rects.part}
 use Rattle.tiled_image.specs.Shown.{IsStripCopied, as_image, cell_in}
 use Rattle.tiled_image.proofs.CopiedStrips.{none_copied, part_long, part_replaced, row_copied, row_of_cells, row_start}
-use Rattle.tiled_image.proofs.CopiedStrips.{row_within, row_within_source, strip_in}
+use Rattle.tiled_image.proofs.CopiedStrips.{row_small, row_within, row_within_source, strip_in}
 use Rattle.tiled_image.proofs.copies.copy_cells.Goals as goal
+
+pub overflow_sub-left_from : goal.overflow_sub-left_from
+overflow_sub-left_from c = c.requires.strip.lies_from.0
+
+pub overflow_sub-top_from : goal.overflow_sub-top_from
+overflow_sub-top_from c = c.requires.strip.lies_from.2
+
+pub overflow_sub-left : goal.overflow_sub-left
+overflow_sub-left c = c.requires.strip.lies_to.0
+
+pub overflow_sub-top : goal.overflow_sub-top
+overflow_sub-top c = c.requires.strip.lies_to.2
 
 pub loop-y-init : goal.loop-y-init
 loop-y-init c = none_copied c.args.strip (cell_in c.args.from c.args.source.now) c.args.to c.args.cells.now
+
+pub overflow_mul-start : goal.overflow_mul-start
+overflow_mul-start c =
+    let a = c.args in
+    omega (
+      arith,
+      row_small a.strip (as_image a.from a.source.now) a.from a.to (length a.cells.now) c.requires.strip c.loop-y.y
+          c.loop-y-test.true,
+    )
+
+pub overflow_add-start-in-loop-y : goal.overflow_add-start-in-loop-y
+overflow_add-start-in-loop-y c =
+    let a = c.args in
+    omega (
+      arith,
+      row_small a.strip (as_image a.from a.source.now) a.from a.to (length a.cells.now) c.requires.strip c.loop-y.y
+          c.loop-y-test.true,
+    )
+
+pub overflow_add-end : goal.overflow_add-end
+overflow_add-end c =
+    let a = c.args in
+    omega (
+      arith,
+      row_small a.strip (as_image a.from a.source.now) a.from a.to (length a.cells.now) c.requires.strip c.loop-y.y
+          c.loop-y-test.true,
+    )
+
+pub offset_bounds-cells-start : goal.offset_bounds-cells-start
+offset_bounds-cells-start c =
+    let a = c.args in
+    omega (
+      arith,
+      row_small a.strip (as_image a.from a.source.now) a.from a.to (length a.cells.now) c.requires.strip c.loop-y.y
+          c.loop-y-test.true,
+    )
+
+pub slice_bounds-copy_row-count : goal.slice_bounds-copy_row-count
+slice_bounds-copy_row-count c = omega arith
+
+pub slice_bounds-copy_row-start : goal.slice_bounds-copy_row-start
+slice_bounds-copy_row-start c =
+    let start = row_start c.args.strip c.args.to c.loop-y.y in
+    let begins : start ≤ start + c.args.strip.w = omega arith in
+    begins
 
 -- each row of the strip ends within the cells
 pub slice_bounds-copy_row-end : goal.slice_bounds-copy_row-end
@@ -17,6 +74,15 @@ slice_bounds-copy_row-end c =
     subst (λ n. start + a.strip.w ≤ n) (sym c.loop-y.invariant.count)
     (row_within a.strip (as_image a.from a.source.now) a.from a.to (length a.cells.now) c.requires.strip c.loop-y.y
     c.loop-y-test.true)
+
+pub slice_bounds-copy_row-count-in-loop-y : goal.slice_bounds-copy_row-count-in-loop-y
+slice_bounds-copy_row-count-in-loop-y c = omega arith
+
+pub slice_bounds-copy_row-start-in-loop-y : goal.slice_bounds-copy_row-start-in-loop-y
+slice_bounds-copy_row-start-in-loop-y c =
+    let first = row_start c.args.strip c.args.from c.loop-y.y in
+    let begins : first ≤ first + c.args.strip.w = omega arith in
+    begins
 
 -- and within the source
 pub slice_bounds-copy_row-end-in-loop-y : goal.slice_bounds-copy_row-end-in-loop-y

@@ -1,5 +1,5 @@
 -- What the tactics leave open of `fill_from`.
-use Rattle.std.proofs.Common.{◌≡◌, ◌+◌, ◌*◌, ◌≤◌, ℕ, List, length, slice_range, ap, sym, subst, ◌∙◌, arith}
+use Rattle.std.proofs.Common.{◌≡◌, ◌+◌, ◌*◌, ◌<◌, ◌≤◌, ℕ, List, length, slice_range, ap, sym, subst, ◌∙◌, arith}
 use Rattle.std.proofs.lemmas.Bool.{iff_false}
 use Rattle.grid_core.specs.{declared.bounds.Bounds.Bounds, declared.pixel.Pixel.Pixel, declared.rect.Rect.Rect}
 use Rattle.grid_core.specs.Bounds.{AreEmpty, bounds_of, intersection, rect_within}
@@ -11,8 +11,10 @@ use Rattle.tiled_image.specs.{Rims.IsEdgeBeside, Rims.StandApart, Rims.start_of,
 use Rattle.tiled_image.specs.Shown.{CanCopy, IsStripCopied, as_image, cell_in}
 use Rattle.tiled_image.proofs.CopiedStrips.{part_long}
 use Rattle.tiled_image.proofs.RingTiles.{beside_has, border_fits, can_copy_common, common, common_shown, none_shown}
+use Rattle.tiled_image.proofs.RingTiles.{some_in}
 use Rattle.tiled_image.proofs.StripCopies.{strip_cell}
-use Rattle.tiled_image.proofs.Strips.{start_small, strip_ends, tile_strip_lies, tile_strip_within, tiles_apart}
+use Rattle.tiled_image.proofs.Strips.{start_small, strip_ends, tile_strip_lies, tile_strip_small}
+use Rattle.tiled_image.proofs.Strips.{tile_strip_within, tiles_apart}
 use Rattle.tiled_image.proofs.rims.fill_from.Goals as goal
 
 -- the bounds of the pixels that a strip and a rectangle have both
@@ -39,6 +41,54 @@ edge_beside-edge-requires c =
     (tiles_apart tiling c.args.other c.args.tile c.side-side.ensures.tiled c.requires.other c.requires.tile
     c.requires.differ))
 
+pub strip_at-strip-requires-clause-some_width : goal.strip_at-strip-requires-clause-some_width
+strip_at-strip-requires-clause-some_width c = c.rect-rect.ensures.fits.some_width
+
+pub strip_at-strip-requires-clause-some_height : goal.strip_at-strip-requires-clause-some_height
+strip_at-strip-requires-clause-some_height c = c.rect-rect.ensures.fits.some_height
+
+pub strip_at-strip-requires-clause-columns : goal.strip_at-strip-requires-clause-columns
+strip_at-strip-requires-clause-columns c =
+    omega (arith, c.rect-rect.ensures.fits.columns, c.side-side.ensures.tiled.size.width_within)
+
+pub strip_at-strip-requires-clause-rows : goal.strip_at-strip-requires-clause-rows
+strip_at-strip-requires-clause-rows c =
+    omega (arith, c.rect-rect.ensures.fits.rows, c.side-side.ensures.tiled.size.height_within)
+
+pub of-bounds-requires-clause-columns : goal.of-bounds-requires-clause-columns
+of-bounds-requires-clause-columns c =
+    let strip_is : c.strip_at-strip.result ≡ strip_of c.args.tiling.now c.args.other c.edge_beside-edge.result =
+    c.strip_at-strip.ensures ∙ ap (strip_at c.edge_beside-edge.result) c.rect-rect.ensures.value in
+    subst (λ (r : Rect). r.x + r.w < 4294967296) (sym strip_is)
+    (tile_strip_small c.args.tiling.now c.args.other c.side-side.ensures.tiled c.requires.other
+    c.edge_beside-edge.result).0
+
+pub of-bounds-requires-clause-rows : goal.of-bounds-requires-clause-rows
+of-bounds-requires-clause-rows c =
+    let strip_is : c.strip_at-strip.result ≡ strip_of c.args.tiling.now c.args.other c.edge_beside-edge.result =
+    c.strip_at-strip.ensures ∙ ap (strip_at c.edge_beside-edge.result) c.rect-rect.ensures.value in
+    subst (λ (r : Rect). r.y + r.h < 4294967296) (sym strip_is)
+    (tile_strip_small c.args.tiling.now c.args.other c.side-side.ensures.tiled c.requires.other
+    c.edge_beside-edge.result).1
+
+pub of-requires-clause-columns : goal.of-requires-clause-columns
+of-requires-clause-columns c =
+    let a = c.args in
+    let tiling = a.tiling.now in
+    let fits = border_fits tiling.width tiling.height (rect_of tiling a.tile)
+    (tiles_lie_inside tiling a.tile c.side-side.ensures.tiled c.requires.tile) in
+    subst (λ (r : Rect). r.x + r.w < 4294967296) (sym c.requires.around)
+    (omega (arith, fits.columns, c.side-side.ensures.tiled.size.width_within))
+
+pub of-requires-clause-rows : goal.of-requires-clause-rows
+of-requires-clause-rows c =
+    let a = c.args in
+    let tiling = a.tiling.now in
+    let fits = border_fits tiling.width tiling.height (rect_of tiling a.tile)
+    (tiles_lie_inside tiling a.tile c.side-side.ensures.tiled c.requires.tile) in
+    subst (λ (r : Rect). r.y + r.h < 4294967296) (sym c.requires.around)
+    (omega (arith, fits.rows, c.side-side.ensures.tiled.size.height_within))
+
 pub returns-then-is_empty : goal.returns-then-is_empty
 returns-then-is_empty c image are =
     let a = c.args in
@@ -56,6 +106,9 @@ returns-then-is_empty c image are =
     (strip_has tiling a.tile a.other c.rect-rect.result c.rect.result a.around edge c.rect-rect.ensures.value
     c.rect.ensures.value c.requires.around c.edge_beside-edge.ensures) empty image a.cells.now
 
+pub start_of-start-requires : goal.start_of-start-requires
+start_of-start-requires c = c.requires.other
+
 pub overflow_add-end : goal.overflow_add-end
 overflow_add-end c =
     omega (
@@ -65,6 +118,14 @@ overflow_add-end c =
       c.side-side.ensures.value,
     )
 
+pub rect-requires-2-clause-columns : goal.rect-requires-2-clause-columns
+rect-requires-2-clause-columns c =
+    omega (arith, (some_in c.intersection-common.result (iff_false c.is_empty.ensures c.if-is_empty.false)).0)
+
+pub rect-requires-2-clause-rows : goal.rect-requires-2-clause-rows
+rect-requires-2-clause-rows c =
+    omega (arith, (some_in c.intersection-common.result (iff_false c.is_empty.ensures c.if-is_empty.false)).1)
+
 pub offset_bounds-values-start : goal.offset_bounds-values-start
 offset_bounds-values-start c =
     omega (
@@ -72,6 +133,15 @@ offset_bounds-values-start c =
       start_small c.args.tiling.now c.args.other c.side-side.ensures.tiled c.requires.other c.edge_beside-edge.result,
       c.start_of-start.ensures,
     )
+
+pub slice_bounds-copy_cells-count : goal.slice_bounds-copy_cells-count
+slice_bounds-copy_cells-count c = omega arith
+
+pub slice_bounds-copy_cells-start : goal.slice_bounds-copy_cells-start
+slice_bounds-copy_cells-start c =
+    let start = c.start_of-start.result in
+    let begins : start ≤ start + c.side-side.result = omega arith in
+    begins
 
 pub slice_bounds-copy_cells-end : goal.slice_bounds-copy_cells-end
 slice_bounds-copy_cells-end c =

@@ -1,12 +1,30 @@
 -- What the tactics leave open of `write_strip`.
 use Rattle.std.proofs.Common.{◌≡◌, ◌+◌, ◌*◌, ◌≤◌, ℕ, List, length, slice_range, ap, sym, subst, ◌∙◌, arith}
-use Rattle.grid_core.specs.{declared.rect.Rect.Rect, Raster.Raster}
+use Rattle.std.proofs.Common.{refl}
+use Rattle.grid_core.specs.{declared.rect.Rect.Rect, Raster.IsOfSize, Raster.Raster}
 use Rattle.tiled_image.specs.{RaisedTiles.IsStripWritten, Rims.start_of, Rims.strip_at, Rims.strip_of, Shown.CanCopy}
 use Rattle.tiled_image.specs.Shown.{IsStripCopied, as_image, cell_in}
 use Rattle.tiled_image.proofs.{CopiedStrips.part_long, StripCopies.strip_cell}
 use Rattle.tiled_image.proofs.Strips.{start_small, strip_ends, tile_strip_within}
 use Rattle.tiled_image.proofs.WrittenRims.{can_write_strip, strip_written}
 use Rattle.tiled_image.proofs.rims.write_strip.Goals as goal
+
+pub strip_at-strip-requires-clause-some_width : goal.strip_at-strip-requires-clause-some_width
+strip_at-strip-requires-clause-some_width c = c.rect.ensures.fits.some_width
+
+pub strip_at-strip-requires-clause-some_height : goal.strip_at-strip-requires-clause-some_height
+strip_at-strip-requires-clause-some_height c = c.rect.ensures.fits.some_height
+
+pub strip_at-strip-requires-clause-columns : goal.strip_at-strip-requires-clause-columns
+strip_at-strip-requires-clause-columns c =
+    omega (arith, c.rect.ensures.fits.columns, c.side-side.ensures.tiled.size.width_within)
+
+pub strip_at-strip-requires-clause-rows : goal.strip_at-strip-requires-clause-rows
+strip_at-strip-requires-clause-rows c =
+    omega (arith, c.rect.ensures.fits.rows, c.side-side.ensures.tiled.size.height_within)
+
+pub start_of-start-requires : goal.start_of-start-requires
+start_of-start-requires c = c.requires.tile
 
 pub overflow_add-end : goal.overflow_add-end
 overflow_add-end c =
@@ -24,6 +42,15 @@ offset_bounds-values-start c =
       start_small c.args.tiling.now c.args.tile c.side-side.ensures.tiled c.requires.tile c.args.edge,
       c.start_of-start.ensures,
     )
+
+pub slice_bounds-copy_cells-count : goal.slice_bounds-copy_cells-count
+slice_bounds-copy_cells-count c = omega arith
+
+pub slice_bounds-copy_cells-start : goal.slice_bounds-copy_cells-start
+slice_bounds-copy_cells-start c =
+    let start = c.start_of-start.result in
+    let begins : start ≤ start + c.side-side.result = omega arith in
+    begins
 
 pub slice_bounds-copy_cells-end : goal.slice_bounds-copy_cells-end
 slice_bounds-copy_cells-end c =
@@ -71,6 +98,14 @@ copy_cells-requires-clause-room c =
     let room = tile_strip_within tiling a.tile c.side-side.ensures.tiled c.requires.tile a.edge in
     subst (λ n. strip.w * strip.h ≤ n) (sym long)
     (subst (λ (r : Rect). r.w * r.h ≤ tiling.side) (sym strip_is) room)
+
+pub returns-clause-size : goal.returns-clause-size
+returns-clause-size c =
+    let a = c.args in
+    let new = c.copy_cells.new.cells in
+    let count = c.copy_cells.ensures.count ∙ ap length c.cells_mut.ensures.values in
+    subst (λ (r : Raster). IsOfSize a.image.now r) (sym (c.cells_given_back.ensures a.image.now new count))
+    (record { width = refl; height = refl; filled = count ∙ c.cells_mut.ensures.sized.filled })
 
 pub returns-clause-written : goal.returns-clause-written
 returns-clause-written c whole are =

@@ -1,10 +1,27 @@
 -- What the tactics leave open of `widened_at`.
-use Rattle.std.proofs.Common.{◌+◌, ◌*◌, ◌≤◌, length, ap, sym, ◌∙◌, arith}
+use Rattle.std.proofs.Common.{◌≡◌, ◌+◌, ◌*◌, ◌<◌, ◌≤◌, length, ap, sym, subst, ◌∙◌, arith}
 use Rattle.grid_core.specs.declared.rect.Rect.{Rect}
-use Rattle.tiled_image.specs.{Rims.strip_at, Sides.side_of}
+use Rattle.tiled_image.specs.{Rims.strip_at, Rims.strip_of, Sides.side_of}
 use Rattle.tiled_image.proofs.{CopiedStrips.part_long, RaisedRims.side_ends, RimsAbove.widened_strip}
-use Rattle.tiled_image.proofs.Strips.{start_small, tile_strip_within}
+use Rattle.tiled_image.proofs.Strips.{start_small, tile_strip_small, tile_strip_within}
 use Rattle.tiled_image.proofs.rims.raising.widened_at.Goals as goal
+
+pub strip_at-strip-requires-clause-some_width : goal.strip_at-strip-requires-clause-some_width
+strip_at-strip-requires-clause-some_width c = c.rect.ensures.fits.some_width
+
+pub strip_at-strip-requires-clause-some_height : goal.strip_at-strip-requires-clause-some_height
+strip_at-strip-requires-clause-some_height c = c.rect.ensures.fits.some_height
+
+pub strip_at-strip-requires-clause-columns : goal.strip_at-strip-requires-clause-columns
+strip_at-strip-requires-clause-columns c =
+    omega (arith, c.rect.ensures.fits.columns, c.side.ensures.tiled.size.width_within)
+
+pub strip_at-strip-requires-clause-rows : goal.strip_at-strip-requires-clause-rows
+strip_at-strip-requires-clause-rows c =
+    omega (arith, c.rect.ensures.fits.rows, c.side.ensures.tiled.size.height_within)
+
+pub start_of-start-requires : goal.start_of-start-requires
+start_of-start-requires c = c.requires.tile
 
 pub overflow_add-end : goal.overflow_add-end
 overflow_add-end c =
@@ -29,6 +46,15 @@ offset_bounds-values-start c =
       start_small a.tiling.now a.tile c.side.ensures.tiled c.requires.tile a.edge,
     )
 
+pub slice_bounds-widened_by_line-count : goal.slice_bounds-widened_by_line-count
+slice_bounds-widened_by_line-count c = omega arith
+
+pub slice_bounds-widened_by_line-start : goal.slice_bounds-widened_by_line-start
+slice_bounds-widened_by_line-start c =
+    let start = c.start_of-start.result in
+    let begins : start ≤ start + length c.side_of-side.result.now = omega arith in
+    begins
+
 pub slice_bounds-widened_by_line-end : goal.slice_bounds-widened_by_line-end
 slice_bounds-widened_by_line-end c =
     let a = c.args in
@@ -42,6 +68,22 @@ slice_bounds-widened_by_line-end c =
       c.requires.count,
     ) in
     within
+
+pub widened_by_line-requires-clause-columns : goal.widened_by_line-requires-clause-columns
+widened_by_line-requires-clause-columns c =
+    let a = c.args in
+    let strip_is : c.strip_at-strip.result ≡ strip_of a.tiling.now a.tile a.edge =
+    c.strip_at-strip.ensures ∙ ap (strip_at a.edge) c.rect.ensures.value in
+    subst (λ (r : Rect). r.x + r.w < 4294967296) (sym strip_is)
+    (tile_strip_small a.tiling.now a.tile c.side.ensures.tiled c.requires.tile a.edge).0
+
+pub widened_by_line-requires-clause-rows : goal.widened_by_line-requires-clause-rows
+widened_by_line-requires-clause-rows c =
+    let a = c.args in
+    let strip_is : c.strip_at-strip.result ≡ strip_of a.tiling.now a.tile a.edge =
+    c.strip_at-strip.ensures ∙ ap (strip_at a.edge) c.rect.ensures.value in
+    subst (λ (r : Rect). r.y + r.h < 4294967296) (sym strip_is)
+    (tile_strip_small a.tiling.now a.tile c.side.ensures.tiled c.requires.tile a.edge).1
 
 -- a value and a limit for each pixel of the strip
 pub widened_by_line-requires-clause-limits : goal.widened_by_line-requires-clause-limits
