@@ -56,8 +56,9 @@ fn play<R: System>(rt: &R, alloc: Global, seed: u64) -> Outcome {
     thread::scope(thread::scope_env(), rt, move |scope| {
         round.note(spawn_hands(scope, rt, hands, &round.done));
         for (pen, eye) in pens.into_iter().zip(eyes) {
-            round.note(is_made(scope.spawn(move || round.write(alloc, pen))));
-            round.note(is_made(scope.spawn(move || round.watch(eye))));
+            let writes = is_made(scope.spawn(move || round.write(alloc, pen)));
+            let watches = is_made(scope.spawn(move || round.watch(eye)));
+            round.note(check(writes && watches, "a thread can not be made"));
         }
         round.note(round.keep(rt, lent));
         round.done.store(true, Ordering::SeqCst);

@@ -44,18 +44,18 @@ pub fn spawn_hands<'s, E: 's, R: System>(
     hands: Vec<Hand>,
     done: &'s AtomicBool,
 ) -> Outcome {
-    let mut all = Ok(());
+    let mut are_made = true;
     for hand in hands {
-        all = all.and(is_made(scope.spawn(move || work(rt, hand, done))));
+        are_made = is_made(scope.spawn(move || work(rt, hand, done))) && are_made;
     }
-    all
+    check(are_made, "a thread can not be made")
 }
 
-/// Nothing where a thread was made, which the scope waits for, or that none could be. What it was to own is let go.
-pub fn is_made<T: Drop, E: Drop>(started: Result<T, E>) -> Outcome {
+/// Whether a thread was made, for which the scope waits. Where none was, what it was to own is let go.
+pub fn is_made<T: Drop, E: Drop>(started: Result<T, E>) -> bool {
     let is_made = started.is_ok();
     drop(started);
-    check(is_made, "a thread can not be made")
+    is_made
 }
 
 // Lets a hand work until the flag is set.
